@@ -1,0 +1,10 @@
+pub mod Bools
+pub mod Told
+pub mod Slices
+pub mod Reading
+pub mod Steps
+pub mod Places
+pub mod Parts
+pub mod Inside
+pub mod Encoding
+pub mod Examples

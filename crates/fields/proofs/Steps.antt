@@ -1,0 +1,169 @@
+-- What a reading step found says how the bytes from its place on are read.
+use Prim.Native.Nat.{ℕ, _+_, _-_, _*_, _^_, _≤_, _<_}
+use mathlib.Core.Path.{_≡_, refl, sym, ap, _∙_}
+use mathlib.Core.Bool.{Bool, true, false, cond}
+use mathlib.Core.List.{List, [], _∷_}
+use native.Mathlib.Omega.{arith}
+use borrow.Author.Tests.{le-leb, lt-leb, leb-true, leb-false}
+use mir.Syntax.{w64}
+use mir.Val.{Fits}
+use lib.Dec.{leb}
+use lib.ListN.{length, take, drop, length-drop}
+use lib.Seq.{drop-drop}
+use Rattle.fields.specs.Field.{tagOf, lengthOf, whole, content, after}
+use Rattle.fields.specs.Cursor.{headAt, textAt, partAt, cursorAt}
+use Rattle.fields.specs.declared.cursor.Cursor.{Cursor}
+use Rattle.fields.specs.declared.cursor.Head.{Head}
+use Rattle.fields.specs.declared.cursor.Head.the-variants as head
+use Rattle.fields.specs.declared.cursor.Text.{Text}
+use Rattle.fields.specs.declared.cursor.Text.the-variants as text
+use Rattle.fields.specs.declared.cursor.Part.{Part}
+use Rattle.fields.specs.declared.cursor.Part.the-variants as part
+
+-- a place behind n more bytes of s is no larger than a slice's length
+pub in-range : (s x : List ℕ) (at n : ℕ) → x ≡ drop at s → n ≤ length x → at < 2 ^ 64 → length s < 2 ^ 64 → Fits w64 (at + n)
+in-range s x at n e h f g = let l : n ≤ length s - at = rw (← length-drop at s, ← e) h in omega arith
+
+no-bytes : (x : List ℕ) → leb 1 (length x) ≡ false → x ≡ []
+no-bytes [] h = refl
+no-bytes (y ∷ ys) h = absurd (omega (arith, leb-false 1 (length (y ∷ ys)) h))
+
+-- n bytes behind the first three, and 3 + n bytes
+same-test : (n l : ℕ) → 3 ≤ l → leb n (l - 3) ≡ leb (3 + n) l
+same-test n l h = go (leb n (l - 3)) refl
+  where
+    go : (k : Bool) → leb n (l - 3) ≡ k → leb n (l - 3) ≡ leb (3 + n) l
+    go true e = e ∙ sym (le-leb (3 + n) l (omega (arith, leb-true n (l - 3) e)))
+    go false e = e ∙ sym (lt-leb (3 + n) l (omega (arith, leb-false n (l - 3) e)))
+
+-- what the code makes is what the definition says
+module _ (s x : List ℕ) (at : ℕ) (e : x ≡ drop at s) where
+  pub head-found : 3 ≤ length x → (t l : ℕ) → t ≡ tagOf x → l ≡ lengthOf x → head.Found t l (cursorAt (at + 3)) ≡ headAt s at
+  head-found h t l f g = rw (← e, le-leb 3 (length x) h, f, g)
+
+  pub head-cut : length x < 3 → 1 ≤ length x → head.Cut ≡ headAt s at
+  head-cut h k = rw (← e, lt-leb 3 (length x) h, le-leb 1 (length x) k)
+
+  pub head-end : length x < 3 → length x < 1 → head.End ≡ headAt s at
+  head-end h k = rw (← e, lt-leb 3 (length x) h, lt-leb 1 (length x) k)
+
+  pub text-found : (n : ℕ) → n ≤ length x → text.Found at (at + n) (cursorAt (at + n)) ≡ textAt s at n
+  text-found n h = rw (← e, le-leb n (length x) h)
+
+  pub text-cut : (n : ℕ) → length x < n → text.Cut ≡ textAt s at n
+  text-cut n h = rw (← e, lt-leb n (length x) h)
+
+-- a head and the text of its length are a whole field, and a whole field is both
+module _ (s : List ℕ) (at : ℕ) where
+  text-left : leb 3 (length (drop at s)) ≡ true → leb (lengthOf (drop at s)) (length (drop (at + 3) s)) ≡ whole (drop at s)
+  text-left h =
+      let k = leb-true 3 (length (drop at s)) h in
+      let d : length (drop (at + 3) s) ≡ length (drop at s) - 3 = ap length (sym (drop-drop 3 at s)) ∙ length-drop 3 (drop at s) in
+      rw d (same-test (lengthOf (drop at s)) (length (drop at s)) k)
+
+  no-head : leb 3 (length (drop at s)) ≡ false → whole (drop at s) ≡ false
+  no-head h = lt-leb (3 + lengthOf (drop at s)) (length (drop at s)) (omega (arith, leb-false 3 (length (drop at s)) h))
+
+  head-is : (r : Head) → r ≡ headAt s at → (t l : ℕ) (n : Cursor) → r ≡ head.Found t l n →
+      (leb 3 (length (drop at s)) ≡ true) × (t ≡ tagOf (drop at s)) × (l ≡ lengthOf (drop at s)) × (n .at ≡ at + 3)
+  head-is r e t l n f = go (leb 3 (length (drop at s))) (leb 1 (length (drop at s))) refl refl
+    where
+      go : (j k : Bool) → leb 3 (length (drop at s)) ≡ j → leb 1 (length (drop at s)) ≡ k →
+          (leb 3 (length (drop at s)) ≡ true) × (t ≡ tagOf (drop at s)) × (l ≡ lengthOf (drop at s)) × (n .at ≡ at + 3)
+      go true k h i = ((cc), (cc), (cc), (cc))
+      go false true h i = ((cc), (cc), (cc), (cc))
+      go false false h i = ((cc), (cc), (cc), (cc))
+
+  -- the answers of `part`, by those of `head` and `text`
+  module _ (r : Head) (e : r ≡ headAt s at) where
+    module _ (t l : ℕ) (n : Cursor) (f : r ≡ head.Found t l n) (q : Text) (g : q ≡ textAt s (n .at) l) where
+      by-whole : q ≡ cond (whole (drop at s)) (text.Found (at + 3) (at + 3 + l) (cursorAt (at + 3 + l))) text.Cut
+      by-whole = let (h, x, y, z) = head-is r e t l n f in g ∙ rw (z, y, text-left h)
+
+      pub part-found : (a b : ℕ) (m : Cursor) → q ≡ text.Found a b m → part.Found t a b m ≡ partAt s at
+      part-found a b m h = let (i, x, y, z) = head-is r e t l n f in go (whole (drop at s)) refl x y
+        where
+          go : (w : Bool) → whole (drop at s) ≡ w → t ≡ tagOf (drop at s) → l ≡ lengthOf (drop at s) → part.Found t a b m ≡ partAt s at
+          go true w x y = cc by-whole
+          go false w x y = cc by-whole
+
+      pub part-cut : q ≡ text.Cut → part.Cut ≡ partAt s at
+      part-cut h = go (whole (drop at s)) refl (head-is r e t l n f .0)
+        where
+          go : (w : Bool) → whole (drop at s) ≡ w → leb 3 (length (drop at s)) ≡ true → part.Cut ≡ partAt s at
+          go true w i = cc by-whole
+          go false w i = rw (w, le-leb 1 (length (drop at s)) (omega (arith, leb-true 3 (length (drop at s)) i)))
+
+    pub part-cut-head : r ≡ head.Cut → part.Cut ≡ partAt s at
+    part-cut-head f = go (leb 3 (length (drop at s))) (leb 1 (length (drop at s))) refl refl
+      where
+        go : (j k : Bool) → leb 3 (length (drop at s)) ≡ j → leb 1 (length (drop at s)) ≡ k → part.Cut ≡ partAt s at
+        go true k h i = cc
+        go false true h i = cc (no-head h)
+        go false false h i = cc
+
+    pub part-end : r ≡ head.End → part.End ≡ partAt s at
+    part-end f = go (leb 3 (length (drop at s))) (leb 1 (length (drop at s))) refl refl
+      where
+        go : (j k : Bool) → leb 3 (length (drop at s)) ≡ j → leb 1 (length (drop at s)) ≡ k → part.End ≡ partAt s at
+        go true k h i = cc
+        go false true h i = cc
+        go false false h i = cc (no-head h)
+
+-- What a part that was found says of the bytes from its place on: with t for them, `whole t`, its tag, its content and
+-- `after t`
+pub record PartFound (s : List ℕ) (at t start stop : ℕ) (n : Cursor) : Type 0 where
+  pub is-whole : whole (drop at s) ≡ true
+  pub has-tag : t ≡ tagOf (drop at s)
+  pub starts : start ≡ at + 3
+  pub stops : stop ≡ at + 3 + lengthOf (drop at s)
+  pub within : stop ≤ length s
+  pub moves : n .at ≡ stop
+  pub holds : take (stop - start) (drop start s) ≡ content (drop at s)
+  pub leaves : drop (n .at) s ≡ after (drop at s)
+
+module _ (s : List ℕ) (at : ℕ) (r : Part) (e : r ≡ partAt s at) where
+  module _ (t a b : ℕ) (n : Cursor) (f : r ≡ part.Found t a b n) where
+    read-is : (whole (drop at s) ≡ true) × (t ≡ tagOf (drop at s)) × (a ≡ at + 3) × (b ≡ at + 3 + lengthOf (drop at s)) × (n .at ≡ b)
+    read-is = go (whole (drop at s)) (leb 1 (length (drop at s))) refl refl
+      where
+        go : (j k : Bool) → whole (drop at s) ≡ j → leb 1 (length (drop at s)) ≡ k →
+            (whole (drop at s) ≡ true) × (t ≡ tagOf (drop at s)) × (a ≡ at + 3) × (b ≡ at + 3 + lengthOf (drop at s)) × (n .at ≡ b)
+        go true k h i = ((cc), (cc), (cc), (cc), (cc))
+        go false true h i = ((cc), (cc), (cc), (cc), (cc))
+        go false false h i = ((cc), (cc), (cc), (cc), (cc))
+
+    pub part-is : PartFound s at t a b n
+    part-is =
+        let (w, x, y, z, m) = read-is in
+        let l : 3 + lengthOf (drop at s) ≤ length s - at = rw (← length-drop at s) (leb-true (3 + lengthOf (drop at s)) (length (drop at s)) w) in
+        let d : b - a ≡ lengthOf (drop at s) = omega arith in
+        let u : b ≡ at + (3 + lengthOf (drop at s)) = omega arith in
+        record {
+          is-whole = w;
+          has-tag = x;
+          starts = y;
+          stops = z;
+          within = omega arith;
+          moves = m;
+          holds = rw (d, y, ← drop-drop 3 at s);
+          leaves = rw (m, u, ← drop-drop (3 + lengthOf (drop at s)) at s);
+        }
+
+  -- something is left at the place, and no whole field
+  pub cut-is : r ≡ part.Cut → (whole (drop at s) ≡ false) × (leb 1 (length (drop at s)) ≡ true)
+  cut-is f = go (whole (drop at s)) (leb 1 (length (drop at s))) refl refl
+    where
+      go : (j k : Bool) → whole (drop at s) ≡ j → leb 1 (length (drop at s)) ≡ k → (whole (drop at s) ≡ false) × (leb 1 (length (drop at s)) ≡ true)
+      go true k h i = ((cc), (cc))
+      go false true h i = (h, i)
+      go false false h i = ((cc), (cc))
+
+  -- nothing is left
+  pub end-is : r ≡ part.End → drop at s ≡ []
+  end-is f = go (whole (drop at s)) (leb 1 (length (drop at s))) refl refl
+    where
+      go : (j k : Bool) → whole (drop at s) ≡ j → leb 1 (length (drop at s)) ≡ k → drop at s ≡ []
+      go true k h i = cc
+      go false true h i = cc
+      go false false h i = no-bytes (drop at s) i

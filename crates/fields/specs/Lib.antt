@@ -1,0 +1,4 @@
+pub mod Lists
+pub mod Tag
+pub mod Field
+pub mod Cursor
