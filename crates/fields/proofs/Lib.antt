@@ -5,6 +5,7 @@ pub mod Reading
 pub mod Steps
 pub mod Places
 pub mod Parts
+pub mod Rows
 pub mod Inside
 pub mod Encoding
 pub mod Examples

@@ -5,19 +5,19 @@ use mathlib.Core.Bool.{Bool, true, false, cond, not, _&&_}
 use mathlib.Core.List.{List, []}
 use lib.ListN.{length, take, drop}
 use Rattle.fields.specs.Tag.{composite}
-use Rattle.fields.specs.Field.{Fields, fields, tagOf, lengthOf, whole, content, front, tag, text, parts, sizes}
+use Rattle.fields.specs.Field.{Fields, fields, fieldWith, tagOf, lengthOf, whole, content, front, tag, text, parts, sizes}
 use Rattle.fields.specs.Field.Field.{field}
 use Rattle.fields.specs.Field.Fields.{end, next}
 use Rattle.fields.proofs.Bools.{and-left}
-use Rattle.fields.proofs.Reading.{fieldOf, front-whole, front-none, fields-end}
+use Rattle.fields.proofs.Reading.{front-whole, front-none, fields-end}
 use Rattle.fields.proofs.Places.{content-length, tree-size}
 
 module _ (s : List ℕ) where
   -- the front by its two tests: a field with parts, with a text, or none
-  front-is : front s ≡ cond (whole s) (fieldOf s (fields (content s))) (field 0 [] (end []))
+  front-is : front s ≡ cond (whole s) (fieldWith (tagOf s) (content s)) (field 0 [] (end []))
   front-is = go (whole s) refl
     where
-      go : (w : Bool) → whole s ≡ w → front s ≡ cond (whole s) (fieldOf s (fields (content s))) (field 0 [] (end []))
+      go : (w : Bool) → whole s ≡ w → front s ≡ cond (whole s) (fieldWith (tagOf s) (content s)) (field 0 [] (end []))
       go true w = rw (front-whole s w, w)
       go false w = rw (front-none s w, w)
 

@@ -6,7 +6,7 @@ use mathlib.Core.Bool.{Bool, true, false, cond}
 use native.Mathlib.Omega.{arith}
 use borrow.Author.Tests.{lt-leb, leb-true, leb-false}
 use lib.ListN.{length, length-take, length-drop, drop-of-length-le}
-use Rattle.fields.specs.Field.{Field, Fields, fields, fieldsTo, tagOf, lengthOf, whole, content, after, front, nth, nothing}
+use Rattle.fields.specs.Field.{Field, Fields, fields, fieldsTo, fieldWith, tagOf, lengthOf, whole, content, after, front, nth, nothing}
 use Rattle.fields.specs.Field.Field.{field}
 use Rattle.fields.specs.Field.Fields.{end, next}
 use Rattle.fields.specs.Tag.{composite}
@@ -28,7 +28,7 @@ pub after-none : (s : List ℕ) → whole s ≡ false → after s ≡ []
 after-none s w = let h : length s < 3 + lengthOf s = leb-false _ _ w in drop-of-length-le s {i = 3 + lengthOf s} (omega arith)
 
 -- the field at the front of s, whose content as fields is ps: the content is those fields, or a text
-abbrev pub fieldOf : List ℕ → Fields → Field
+abbrev fieldOf : List ℕ → Fields → Field
 fieldOf s ps = cond (composite (tagOf s)) (field (tagOf s) [] ps) (field (tagOf s) (content s) (end []))
 
 -- one step of reading, with what was read of the content and behind the field
@@ -71,7 +71,7 @@ enough (suc n) (suc m) s h k =
     ∙ sym (step-to m s)
 
 -- reading unfolds by one field
-pub fields-step : (s : List ℕ) → fields s ≡ cond (whole s) (next (fieldOf s (fields (content s))) (fields (after s))) (end s)
+pub fields-step : (s : List ℕ) → fields s ≡ cond (whole s) (next (fieldWith (tagOf s) (content s)) (fields (after s))) (end s)
 unfolding fields
 fields-step s =
     enough (length s) (suc (length s)) s (omega arith) (omega arith)
@@ -87,7 +87,7 @@ module _ (s : List ℕ) where
     unfolding nth
     fields-next = rw (fields-step s, w)
 
-    pub front-whole : front s ≡ fieldOf s (fields (content s))
+    pub front-whole : front s ≡ fieldWith (tagOf s) (content s)
     unfolding nth
     front-whole = rw (fields-step s, w)
 

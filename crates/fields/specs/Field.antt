@@ -1,11 +1,12 @@
 -- The model file as a tree of fields. A field is a one-byte tag, a two-byte length (most significant byte first) and
 -- that many content bytes. Reading never refuses and loses nothing: what is no whole field stays where it stands.
 use Prim.Native.Nat.{ℕ, zero, suc, _+_, _*_, _/_, _%_}
-use mathlib.Core.Bool.{Bool, true, false}
+use mathlib.Core.Bool.{Bool, true, false, cond}
 use mathlib.Core.List.{List, [], _∷_, _++_}
 use lib.ListN.{length, getD, take, drop}
 use lib.Dec.{leb}
-use Rattle.fields.specs.Tag.{composite}
+use Rattle.fields.specs.Lists.{filter}
+use Rattle.fields.specs.Tag.{between, composite}
 
 -- a field has a tag, and a text or parts; `rest` is what stands behind the last whole field
 mutual
@@ -55,6 +56,10 @@ fieldsTo (suc n) s =
 unfoldable pub fields : List ℕ → Fields
 fields s = fieldsTo (length s) s
 
+-- the field with a tag and a content
+abbrev pub fieldWith : ℕ → List ℕ → Field
+fieldWith t x = cond (composite t) (field t [] (fields x)) (field t x (end []))
+
 -- Parts
 
 -- a field's tag, text and parts
@@ -102,6 +107,20 @@ placeOf zero fs = 0
 placeOf (suc n) (end r) = length r
 placeOf (suc n) (next f fs) = size f + placeOf n fs
 
+-- the fields in a row
+unfoldable pub row : Fields → List Field
+row (end r) = []
+row (next f fs) = f ∷ row fs
+
+-- those whose tags are from `low` to `high`
+unfoldable pub fieldsFrom : (low high : ℕ) → Fields → List Field
+fieldsFrom low high fs = filter (λ f. between low high (tag f)) (row fs)
+
+-- how many bytes stand before the first of them; all, where there is none
+unfoldable pub placeFrom : (low high : ℕ) → Fields → ℕ
+placeFrom low high (end r) = length r
+placeFrom low high (next f fs) = cond (between low high (tag f)) 0 (size f + placeFrom low high fs)
+
 -- a field with the offset of its tag byte
 pub record Placed : Type 0 where
   pub place : ℕ
@@ -111,6 +130,10 @@ pub record Placed : Type 0 where
 unfoldable pub placed : ℕ → Fields → List Placed
 placed n (end r) = []
 placed n (next f fs) = record { place = n; this = f } ∷ placed (n + size f) fs
+
+-- those whose tags are from `low` to `high`, with their places
+unfoldable pub placedFrom : (low high : ℕ) → ℕ → Fields → List Placed
+placedFrom low high n fs = filter (λ p. between low high (tag (p .this))) (placed n fs)
 
 -- a field's parts with their places
 abbrev pub placedParts : Placed → List Placed

@@ -6,7 +6,7 @@ use super::tag::is_composite;
 ghost use mathlib.Core.Path.{_≡_};
 ghost use Prim.Native.Nat.{_+_, _*_, _<_, _-_};
 ghost use lib.ListN.{take, drop, length};
-ghost use Rattle.fields.specs.Field.{tagOf, lengthOf, whole, content, after, fields, front, tag, text, parts, part, nth, sizes, placeOf};
+ghost use Rattle.fields.specs.Field.{tagOf, lengthOf, whole, content, after, fields, front, tag, text, parts, part, nth, sizes, placeOf, placeFrom};
 
 // Two bytes as a number, most significant first.
 fn two_bytes(high: u8, low: u8) -> usize
@@ -109,4 +109,20 @@ pub fn part_of(s: &[u8], n: usize) -> &[u8]
     ensures shows { λ r. ⌜ now r ≡ drop (placeOf n (parts (front (now (s .entry))))) (take (sizes (parts (front (now (s .entry))))) (drop 3 (now (s .entry)))) ⌝ }
 {
     nth_field(parts_of(s), n)
+}
+
+// s from its first field on whose tag is from low to high; no bytes where there is none.
+pub fn first_from(s: &[u8], low: u8, high: u8) -> &[u8]
+    ensures { λ r. ⌜ now r ≡ drop (placeFrom low high (fields (now (s .entry)))) (now (s .entry)) ⌝ }
+{
+    let mut t = s;
+    while is_whole(t) {
+        let tag = front_tag(t);
+        if (low <= tag) & (tag <= high) {
+            return t;
+        }
+        let u = after_front(t);
+        t = u;
+    }
+    skip(t, t.len())
 }

@@ -1,0 +1,1 @@
+// Questions 1 to 8: any bytes, one answer.
