@@ -7,5 +7,9 @@ pub mod Places
 pub mod Parts
 pub mod Rows
 pub mod Inside
+pub mod Prefix
 pub mod Encoding
+pub mod Ranges
+pub mod Tables
+pub mod Texts
 pub mod Examples

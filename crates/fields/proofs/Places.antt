@@ -62,9 +62,9 @@ unfolding placeOf
 nth-place zero s = refl
 nth-place (suc n) s = rw (← drop-after n s) (nth-place n (after s)) ∙ nth-after n s
 
-no-bytes : (t : List ℕ) → length t ≡ 0 → (k : ℕ) → t ≡ drop k t
-no-bytes [] h k = sym (drop-nil k)
-no-bytes (x ∷ xs) h k = absurd (omega (arith, h))
+pub no-bytes : (t : List ℕ) → length t ≡ 0 → t ≡ []
+no-bytes [] h = refl
+no-bytes (x ∷ xs) h = absurd (omega (arith, h))
 
 -- t is what is left of s behind its first i fields
 pub record Passed (s : List ℕ) (n : ℕ) (t : List ℕ) (i : ℕ) : Type 0 where
@@ -85,7 +85,7 @@ module _ (s t : List ℕ) (n i : ℕ) (v : Passed s n t i) where
   passed-all h = let e : n - i ≡ 0 = omega arith in rw e at (v .left)
 
   pub passed-end : length t ≡ 0 → t ≡ drop (placeOf n (fields s)) s
-  passed-end h = no-bytes t h (placeOf (n - i) (fields t)) ∙ v .left
+  passed-end h = let e = no-bytes t h in e ∙ (rw (e, drop-nil) at (v .left))
 
 pub reads-nth : (s t : List ℕ) (n : ℕ) → t ≡ drop (placeOf n (fields s)) s → front t ≡ nth n (fields s)
 reads-nth s t n e = rw e (nth-place n s)

@@ -2,7 +2,7 @@
 use Prim.Native.Nat.{ℕ, _+_, _-_, _*_, _^_, _≤_, _<_}
 use mathlib.Core.Path.{_≡_, refl, sym, ap, _∙_}
 use mathlib.Core.Bool.{Bool, true, false, cond}
-use mathlib.Core.List.{List, [], _∷_}
+use mathlib.Core.List.{List, []}
 use native.Mathlib.Omega.{arith}
 use borrow.Author.Tests.{le-leb, lt-leb, leb-true, leb-false}
 use mir.Syntax.{w64}
@@ -19,14 +19,11 @@ use Rattle.fields.specs.declared.cursor.Text.{Text}
 use Rattle.fields.specs.declared.cursor.Text.the-variants as text
 use Rattle.fields.specs.declared.cursor.Part.{Part}
 use Rattle.fields.specs.declared.cursor.Part.the-variants as part
+use Rattle.fields.proofs.Places.{no-bytes}
 
 -- a place behind n more bytes of s is no larger than a slice's length
 pub in-range : (s x : List ℕ) (at n : ℕ) → x ≡ drop at s → n ≤ length x → at < 2 ^ 64 → length s < 2 ^ 64 → Fits w64 (at + n)
 in-range s x at n e h f g = let l : n ≤ length s - at = rw (← length-drop at s, ← e) h in omega arith
-
-no-bytes : (x : List ℕ) → leb 1 (length x) ≡ false → x ≡ []
-no-bytes [] h = refl
-no-bytes (y ∷ ys) h = absurd (omega (arith, leb-false 1 (length (y ∷ ys)) h))
 
 -- n bytes behind the first three, and 3 + n bytes
 same-test : (n l : ℕ) → 3 ≤ l → leb n (l - 3) ≡ leb (3 + n) l
@@ -166,4 +163,4 @@ module _ (s : List ℕ) (at : ℕ) (r : Part) (e : r ≡ partAt s at) where
       go : (j k : Bool) → whole (drop at s) ≡ j → leb 1 (length (drop at s)) ≡ k → drop at s ≡ []
       go true k h i = cc
       go false true h i = cc
-      go false false h i = no-bytes (drop at s) i
+      go false false h i = no-bytes (drop at s) (omega (arith, leb-false 1 (length (drop at s)) i))

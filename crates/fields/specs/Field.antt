@@ -121,6 +121,15 @@ unfoldable pub placeFrom : (low high : ℕ) → Fields → ℕ
 placeFrom low high (end r) = length r
 placeFrom low high (next f fs) = cond (between low high (tag f)) 0 (size f + placeFrom low high fs)
 
+-- s from its first field on whose tag is from `low` to `high`
+abbrev pub from : (low high : ℕ) → List ℕ → List ℕ
+from low high s = drop (placeFrom low high (fields s)) s
+
+-- s from its n-th on: each is the first behind the one before
+unfoldable pub fromNth : (low high n : ℕ) → List ℕ → List ℕ
+fromNth low high zero s = from low high s
+fromNth low high (suc n) s = from low high (after (fromNth low high n s))
+
 -- a field with the offset of its tag byte
 pub record Placed : Type 0 where
   pub place : ℕ

@@ -6,7 +6,7 @@ use super::tag::is_composite;
 ghost use mathlib.Core.Path.{_≡_};
 ghost use Prim.Native.Nat.{_+_, _*_, _<_, _-_};
 ghost use lib.ListN.{take, drop, length};
-ghost use Rattle.fields.specs.Field.{tagOf, lengthOf, whole, content, after, fields, front, tag, text, parts, part, nth, sizes, placeOf, placeFrom};
+ghost use Rattle.fields.specs.Field.{tagOf, lengthOf, whole, content, after, fields, front, tag, text, parts, part, nth, sizes, placeOf, from, fromNth};
 
 // Two bytes as a number, most significant first.
 fn two_bytes(high: u8, low: u8) -> usize
@@ -113,7 +113,7 @@ pub fn part_of(s: &[u8], n: usize) -> &[u8]
 
 // s from its first field on whose tag is from low to high; no bytes where there is none.
 pub fn first_from(s: &[u8], low: u8, high: u8) -> &[u8]
-    ensures { λ r. ⌜ now r ≡ drop (placeFrom low high (fields (now (s .entry)))) (now (s .entry)) ⌝ }
+    ensures { λ r. ⌜ now r ≡ from low high (now (s .entry)) ⌝ }
 {
     let mut t = s;
     while is_whole(t) {
@@ -125,4 +125,22 @@ pub fn first_from(s: &[u8], low: u8, high: u8) -> &[u8]
         t = u;
     }
     skip(t, t.len())
+}
+
+// s from its n-th field on whose tag is from low to high; no bytes where there is none. It stands at the length of s less
+// that of the answer.
+pub fn nth_from(s: &[u8], low: u8, high: u8, n: usize) -> &[u8]
+    ensures { λ r. ⌜ now r ≡ fromNth low high n (now (s .entry)) ⌝ }
+{
+    let mut t = first_from(s, low, high);
+    let mut i = 0;
+    while i < n {
+        if t.len() == 0 {
+            return t;
+        }
+        let u = first_from(after_front(t), low, high);
+        t = u;
+        i += 1;
+    }
+    t
 }

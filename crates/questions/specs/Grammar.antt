@@ -32,13 +32,13 @@ expression = 7
 -- whether a tag is of a class
 unfoldable pub inClass : ℕ → ℕ → Bool
 inClass c t =
-    eqb name c && eqb Name t
-    || eqb typeName c && eqb TypeName t
-    || eqb item c && isItem t
-    || eqb parameter c && eqb Parameter t
-    || eqb clause c && isClause t
-    || eqb statement c && isStatement t
-    || eqb expression c && isExpression t
+    eqb c name && eqb t Name
+    || eqb c typeName && eqb t TypeName
+    || eqb c item && isItem t
+    || eqb c parameter && eqb t Parameter
+    || eqb c clause && isClause t
+    || eqb c statement && isStatement t
+    || eqb c expression && isExpression t
 
 -- a slot is for one part of a class, for at most one, or for any count; as a number it is the class, and 16 or 32 more
 abbrev pub one : ℕ → ℕ

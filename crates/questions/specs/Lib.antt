@@ -1,3 +1,6 @@
 pub mod Model
 pub mod Grammar
+pub mod Slots
 pub mod Questions
+pub mod Answers
+pub mod Room

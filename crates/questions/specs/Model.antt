@@ -4,9 +4,17 @@ use mathlib.Core.List.{List, map}
 use Rattle.fields.specs.Tag.{State, Genesis, Entry, Parameter, Limits, Denies, Guard, ExpressionStatement}
 use Rattle.fields.specs.Field.{Field, Fields, Placed, text, parts, part, fieldsFrom, placedFrom}
 
+-- the name of a state field, an entry or a parameter
+abbrev pub nameOf : Field → List ℕ
+nameOf f = text (part 0 f)
+
 -- the state fields, in file order
 unfoldable pub states : Fields → List Placed
 states model = placedFrom State State 0 model
+
+-- their names
+unfoldable pub stateNames : Fields → List (List ℕ)
+stateNames model = map nameOf (fieldsFrom State State model)
 
 -- the genesis statements: each 02 holds one
 unfoldable pub genesis : Fields → List Field
@@ -15,10 +23,6 @@ genesis model = map (part 0) (fieldsFrom Genesis Genesis model)
 -- the entries
 unfoldable pub entries : Fields → List Placed
 entries model = placedFrom Entry Entry 0 model
-
--- the name of a state field, an entry or a parameter
-abbrev pub nameOf : Field → List ℕ
-nameOf f = text (part 0 f)
 
 -- the parameters of an entry
 unfoldable pub params : Field → List Field

@@ -1,7 +1,7 @@
 -- Questions 1 to 8, about the file.
 use Prim.Native.Nat.{ℕ, suc, _+_}
 use mathlib.Core.Bool.{Bool, true, false, cond, _&&_, _||_, not}
-use mathlib.Core.List.{List, [], _∷_}
+use mathlib.Core.List.{List, [], _∷_, _++_}
 use mathlib.Core.Option.{Option, none, some}
 use lib.Dec.{leb, eqb}
 use lib.ListN.{length, drop}
@@ -56,20 +56,23 @@ unfoldable mutual
       ]
 
 -- question 7: the first state field whose name an earlier one has
-unfoldable pub askNames : List (List ℕ) → List Placed → Asked
-askNames seen [] = passes
-askNames seen (s ∷ ss) =
-    ask (not (any (sameBytes (nameOf (s .this))) seen)) 7 (s .place)
-    andThen askNames (nameOf (s .this) ∷ seen) ss
+unfoldable pub askNames : (earlier : List (List ℕ)) → List Placed → Asked
+askNames earlier [] = passes
+askNames earlier (s ∷ ss) =
+    ask (not (any (sameBytes (nameOf (s .this))) earlier)) 7 (s .place)
+    andThen askNames (earlier ++ nameOf (s .this) ∷ []) ss
 
 -- at most n of them: else the place of the next one
 unfoldable pub atMost : (n number : ℕ) → List Placed → Asked
 atMost n number ps = elim (drop n ps) [ [] ↦ passes | p ∷ rest ↦ fails number (p .place) ]
 
+-- questions 1 to 6
+unfoldable pub askForm : List ℕ → Asked
+askForm file = ask (leb (length file) 32768) 1 0 andThen askFields (slotsOf 0) 0 1 0 (fields file)
+
 -- questions 1 to 8
 unfoldable pub askFile : List ℕ → Asked
 askFile file =
-    ask (leb (length file) 32768) 1 0
-    andThen askFields (slotsOf 0) 0 1 0 (fields file)
+    askForm file
     andThen askNames [] (states (fields file))
     andThen atMost 64 8 (entries (fields file))

@@ -7,11 +7,11 @@ use borrow.Author.Needs.{needs}
 use lib.Dec.{leb}
 use lib.ListN.{length, drop}
 use lib.Seq.{drop-length}
-use Rattle.fields.specs.Field.{whole, tagOf, after}
+use Rattle.fields.specs.Field.{whole, tagOf, after, from}
 use Rattle.fields.proofs.Told.{told}
 use Rattle.fields.proofs.Reading.{after-less}
 use Rattle.fields.proofs.Parts.{tag-front}
-use Rattle.fields.proofs.Rows.{from, from-end, from-here, from-on}
+use Rattle.fields.proofs.Rows.{from-end, from-here, from-on}
 use Rattle.fields.proofs.front.first_from.Statement.{statement}
 use Rattle.fields.proofs.front.first_from.Tie as tie
 

@@ -1,0 +1,4 @@
+pub mod Rows
+pub mod Left
+pub mod Asking
+pub mod Naming
