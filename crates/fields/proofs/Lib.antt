@@ -12,4 +12,5 @@ pub mod Encoding
 pub mod Ranges
 pub mod Tables
 pub mod Texts
+pub mod Writing
 pub mod Examples

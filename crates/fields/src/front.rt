@@ -96,8 +96,8 @@ pub fn nth_field(s: &[u8], n: usize) -> &[u8]
         if t.len() == 0 {
             return t;
         }
-        let u = after_front(t);
-        t = u;
+        let behind = after_front(t);
+        t = behind;
         i += 1;
     }
     t
@@ -133,14 +133,14 @@ pub fn nth_from(s: &[u8], low: u8, high: u8, n: usize) -> &[u8]
     ensures { λ r. ⌜ now r ≡ fromNth low high n (now (s .entry)) ⌝ }
 {
     let mut t = first_from(s, low, high);
-    let mut i = 0;
-    while i < n {
+    let mut passed = 0;
+    while passed < n {
         if t.len() == 0 {
             return t;
         }
         let u = first_from(after_front(t), low, high);
         t = u;
-        i += 1;
+        passed += 1;
     }
     t
 }

@@ -2,3 +2,4 @@ pub mod Rows
 pub mod Left
 pub mod Asking
 pub mod Naming
+pub mod Examples

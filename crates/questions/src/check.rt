@@ -55,10 +55,11 @@ fn check_field(tag: u8, content: &[u8], place: usize, depth: usize) -> Answer
     }
 }
 
-// Questions 2 and 3 of each field in a content that stands at start, with all that is inside it, and 6 behind the last.
-fn check_fields(outer: u8, content: &[u8], place: usize, start: usize, depth: usize) -> Answer
+// Questions 2 and 3 of each field in a content that stands at start, with all that is inside it, and 6 behind the last: its
+// place is the holder's, the field whose content this is.
+fn check_fields(outer: u8, content: &[u8], holder: usize, start: usize, depth: usize) -> Answer
     requires { ⌜ Room (now content) start depth ⌝ }
-    ensures { λ r. ⌜ asked r ≡ askFields (slotsOf outer) place depth start (fields (now (content .entry))) ⌝ }
+    ensures { λ r. ⌜ asked r ≡ askFields (slotsOf outer) holder depth start (fields (now (content .entry))) ⌝ }
 {
     let mut slots = slots_of(outer);
     let mut cursor = Cursor { at: 0 };
@@ -112,7 +113,7 @@ fn check_fields(outer: u8, content: &[u8], place: usize, start: usize, depth: us
     }
     Answer::Refused {
         number: 6,
-        place: place,
+        place: holder,
     }
 }
 

@@ -47,7 +47,7 @@ nth-from-spec =
     (λ c. search passed-end)  -- returns
     (λ c κs. search needs)  -- after-front-requires
     (λ c κs. search needs)  -- first-from-requires-2
-    (λ c. omega arith)  -- add-i
+    (λ c. omega arith)  -- add-passed
     (λ c. omega arith)  -- loop-less
     (λ c. search passed-one)  -- loop-again
     (λ c. search passed-all))  -- returns-2

@@ -40,8 +40,8 @@ pub +check-field+check-fields-spec : {M : Type 1} → statement M
     (λ c. search (not-allowed, needs)))  -- check-field-returns-4
     λ t. check-fields-lts.spec
     (_, slots-of-reads.Learnt, _, part-reads.Learnt, _, advance-reads.Learnt, _, check-field.Post, _, is-complete-reads.Learnt) _ check-fields.Post
-    (λ outer content place start depth slots₀ cursor₀ slots cursor. Asking outer content place start depth slots (cursor .at))  -- check-fields-Inv-loop
-    (λ outer content place start depth slots₀ cursor₀ slots cursor. length content - cursor .at)  -- check-fields-μ-loop
+    (λ outer content holder start depth slots₀ cursor₀ slots cursor. Asking outer content holder start depth slots (cursor .at))  -- check-fields-Inv-loop
+    (λ outer content holder start depth slots₀ cursor₀ slots cursor. length content - cursor .at)  -- check-fields-μ-loop
     (λ c κs. search needs)  -- check-fields-slots-of-requires
     (λ c. search asking-all)  -- check-fields-loop-holds
     (λ c κs. search needs)  -- check-fields-part-requires

@@ -1,0 +1,258 @@
+// SPDX-License-Identifier: Apache-2.0 OR MIT
+//! The files that are timed.
+
+use generator::construct::*;
+use model_file::{tag, Field};
+
+pub struct Sample {
+    pub name: &'static str,
+    pub file: Vec<u8>,
+}
+
+/// All files: typical, large, hostile.
+pub fn samples() -> Vec<Sample> {
+    let sample = |name, fields: Vec<Field>| Sample {
+        name,
+        file: bytes(&fields),
+    };
+    vec![
+        sample("wallet", wallet(1)),
+        sample("wallet of 4 tokens", wallet(4)),
+        sample("exchange", exchange(1)),
+        sample("exchange of 4 pairs", exchange(4)),
+        sample("large wallet", noted(wallet(16), 9)),
+        sample("large exchange", noted(exchange(12), 12)),
+        sample("64 payouts of 64 debits", payouts(64, 0)),
+        sample("long amounts", payouts(32, 25)),
+        sample("debits and crediting entries", debits_and_credits()),
+        sample("deep nesting", deep_nesting()),
+        sample("guards and raises", guards_and_raises(1, 100, 100)),
+        sample(
+            "payouts, guards and raises",
+            guards_and_raises(16, 150, 150),
+        ),
+        sample(
+            "more payouts, guards and raises",
+            guards_and_raises(40, 300, 400),
+        ),
+    ]
+}
+
+/// The contract with so many more statements in each entry.
+fn noted(mut fields: Vec<Field>, count: usize) -> Vec<Field> {
+    let note = emit("Note", vec![caller(), now(), identifier("amount")]);
+    for field in fields.iter_mut().filter(|f| f.tag == tag::ENTRY) {
+        let parts = field.inner_mut().expect("entries have parts");
+        parts.extend(vec![note.clone(); count]);
+    }
+    fields
+}
+
+fn token(number: usize) -> String {
+    format!("TOKEN{number}")
+}
+
+fn admits(token: &str) -> Field {
+    guard(binary(EQUAL, in_asset(), identifier(token)))
+}
+
+fn pays(token: &str, amount: Field) -> Field {
+    statement(send(identifier(token), amount))
+}
+
+/// A contract that keeps balances: deposit, withdraw, withdraw half, transfer
+/// and redeem for each token.
+fn wallet(tokens: usize) -> Vec<Field> {
+    let mut fields = vec![state("owner", None), state("paused", Some(integer("0")))];
+    for number in 0..tokens {
+        let balances = format!("balances{number}");
+        fields.push(state(&balances, None));
+        fields.extend(wallet_entries(&token(number), &balances));
+    }
+    fields
+}
+
+fn wallet_entries(token: &str, balances: &str) -> Vec<Field> {
+    let amount = || identifier("amount");
+    let unpaused = || guard(binary(EQUAL, identifier("paused"), integer("0")));
+    let credit =
+        |to: Field, value: Field| statement(member_call(balances, "credit", vec![to, value]));
+    let deposit = vec![
+        asset("payment"),
+        limits(binary(EQUAL, in_asset(), identifier(token))),
+        unpaused(),
+        credit(caller(), amount_of("payment")),
+        emit("Deposited", vec![caller(), amount_of("payment")]),
+    ];
+    let withdraw = |value: Field| {
+        vec![
+            plain("amount"),
+            unpaused(),
+            guard(binary(GREATER, amount(), integer("0"))),
+            statement(debit(balances, amount())),
+            pays(token, value),
+            emit("Withdrawn", vec![caller(), amount()]),
+        ]
+    };
+    let transfer = vec![
+        parameter("to", "Address"),
+        plain("amount"),
+        unpaused(),
+        statement(debit(balances, amount())),
+        credit(identifier("to"), amount()),
+    ];
+    vec![
+        entry("deposit", deposit),
+        entry("withdraw", withdraw(amount())),
+        entry(
+            "withdraw_half",
+            withdraw(binary(DIVIDED, amount(), integer("2"))),
+        ),
+        entry("transfer", transfer),
+    ]
+}
+
+/// A contract that swaps: for each pair of tokens a reserve that is filled by
+/// deposits and paid out at a price.
+fn exchange(pairs: usize) -> Vec<Field> {
+    let mut fields = vec![state("owner", None), state("fee", Some(integer("30")))];
+    for number in 0..pairs {
+        let reserve = format!("reserve{number}");
+        let shares = format!("shares{number}");
+        fields.push(state(&reserve, Some(integer("0"))));
+        fields.push(state(&shares, None));
+        fields.push(genesis(assign(
+            tag::SET,
+            identifier(&reserve),
+            integer("0"),
+        )));
+        fields.extend(exchange_entries(number, &reserve, &shares));
+    }
+    fields
+}
+
+fn exchange_entries(number: usize, reserve: &str, shares: &str) -> Vec<Field> {
+    let (base, quote) = (token(2 * number), token(2 * number + 1));
+    let held = || identifier(reserve);
+    let price = || {
+        let scaled = binary(TIMES, amount_of("payment"), identifier("price"));
+        binary(DIVIDED, scaled, integer("1_000"))
+    };
+    let fill = vec![
+        asset("payment"),
+        admits(&base),
+        assign(tag::ADD, held(), amount_of("payment")),
+    ];
+    let swap = vec![
+        asset("payment"),
+        plain("price"),
+        limits(binary(EQUAL, in_asset(), identifier(&quote))),
+        guard(binary(AT_LEAST, held(), price())),
+        assign(tag::SUBTRACT, held(), price()),
+        pays(&base, price()),
+        emit("Swapped", vec![caller(), price()]),
+    ];
+    let refund = vec![
+        asset("payment"),
+        admits(&quote),
+        pays(
+            &quote,
+            binary(MINUS, amount_of("payment"), identifier("fee")),
+        ),
+    ];
+    let join = vec![
+        asset("payment"),
+        admits(&base),
+        statement(member_call(
+            shares,
+            "credit",
+            vec![caller(), amount_of("payment")],
+        )),
+    ];
+    let leave = vec![
+        plain("count"),
+        statement(debit(shares, identifier("count"))),
+        pays(&base, identifier("count")),
+    ];
+    vec![
+        entry("fill", fill),
+        entry("swap", swap),
+        entry("refund", refund),
+        entry("join", join),
+        entry("leave", leave),
+    ]
+}
+
+/// An amount of about `terms` terms that differs from others at its end.
+fn long_amount(terms: usize, number: usize) -> Field {
+    let last = identifier(&format!("n{number:02}"));
+    (0..terms).fold(last, |rest, _| binary(TIMES, identifier("factor"), rest))
+}
+
+/// So many payouts of as many debits, in the opposite order.
+fn payouts(count: usize, terms: usize) -> Vec<Field> {
+    let debits = (0..count).map(|i| statement(debit("m", long_amount(terms, i))));
+    let payouts = (0..count).rev().map(|i| pays("T", long_amount(terms, i)));
+    vec![entry("f", debits.chain(payouts).collect())]
+}
+
+/// Entries with 64 debits each, and entries that credit the map.
+fn debits_and_credits() -> Vec<Field> {
+    let crediting = vec![
+        asset("a"),
+        limits(binary(EQUAL, in_asset(), identifier("T"))),
+        statement(member_call("m", "credit", vec![caller(), amount_of("a")])),
+    ];
+    let taking: Vec<Field> = (0..64)
+        .map(|_| statement(debit("m", identifier("n"))))
+        .collect();
+    let mut fields = vec![entry("g", crediting); 48];
+    fields.extend(vec![entry("f", taking); 14]);
+    fields
+}
+
+/// Amounts of the greatest depth, mostly wrappers, that no backing bounds.
+fn deep_nesting() -> Vec<Field> {
+    let deep = |last: &str| {
+        (0..15).fold(identifier(last), |inner, _| {
+            checked(binary(DIVIDED, inner, integer("2")))
+        })
+    };
+    let mut body = Vec::new();
+    for number in 0..50 {
+        body.push(statement(debit("m", deep(&format!("n{number:02}")))));
+    }
+    body.push(pays("T", deep("other")));
+    vec![entry("f", body)]
+}
+
+/// Payouts out of reserves. For each payout, every guard on the field `all`
+/// comes first, and each time the tokens of all its raises are worked out.
+fn guards_and_raises(payouts: usize, guards: usize, raises: usize) -> Vec<Field> {
+    let amount = || binary(TIMES, amount_of("a"), integer("2"));
+    let held = |name: &str| guard(binary(AT_LEAST, identifier(name), amount()));
+    let lowered = |name: &str| assign(tag::SUBTRACT, identifier(name), amount());
+    let crediting = vec![
+        asset("a"),
+        limits(binary(EQUAL, in_asset(), identifier("T"))),
+        statement(member_call("m", "credit", vec![caller(), amount_of("a")])),
+    ];
+    let mut raising = vec![statement(debit("m", identifier("n")))];
+    raising.extend((0..raises).map(|_| assign(tag::ADD, identifier("all"), identifier("n"))));
+    let mut fields = vec![
+        state("all", None),
+        entry("c", crediting),
+        entry("g", raising),
+    ];
+    let mut paying = vec![asset("a"), lowered("all")];
+    paying.extend((0..guards).map(|_| held("all")));
+    for number in 0..payouts {
+        let (name, token) = (format!("r{number}"), format!("T{number}"));
+        fields.push(state(&name, None));
+        let raise = assign(tag::ADD, identifier(&name), amount_of("a"));
+        fields.push(entry("h", vec![asset("a"), admits(&token), raise]));
+        paying.extend([held(&name), lowered(&name), pays(&token, amount())]);
+    }
+    fields.push(entry("f", paying));
+    fields
+}

@@ -1,0 +1,43 @@
+// SPDX-License-Identifier: Apache-2.0 OR MIT
+//! The original payout matching of Quanta, asked through model files.
+//!
+//! `every_payout_consumes_its_own_backing` is compiled unchanged. It says only
+//! yes or no, so a copy of it, derived by the build script, runs beside it and
+//! tells the covers or the reason. The two must agree on every entry.
+
+mod answer;
+mod error;
+mod listing;
+
+/// The original `model.rs`.
+#[allow(dead_code)]
+mod model {
+    include!(env!("QUANTA_MODEL"));
+}
+
+/// The original `signature.rs`, with the copy that explains its answer. They
+/// are one module because the functions of the original are private to it.
+#[allow(dead_code)]
+mod signature {
+    include!(env!("QUANTA_SIGNATURE"));
+
+    use crate::answer::{reject, Cover, Reason, Rejection};
+    include!(concat!(env!("OUT_DIR"), "/explained.rs"));
+
+    /// The original's answer.
+    pub fn accepts(model: &Model, entry: &EntryDecl) -> bool {
+        every_payout_consumes_its_own_backing(model, entry)
+    }
+
+    /// Visits the expressions of an entry's body as the original does.
+    pub(crate) fn visit(entry: &EntryDecl, visitor: &mut impl FnMut(&Expr)) {
+        for statement in &entry.body {
+            stmt_exprs(statement, visitor);
+        }
+    }
+}
+
+pub use answer::{answer, answers, Answer, Cover, Kind, Reason, Rejection};
+pub use listing::{listing, listing_with_reasons};
+pub use model::Model;
+pub use signature::accepts;
