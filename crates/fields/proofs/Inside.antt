@@ -13,6 +13,7 @@ use Rattle.fields.specs.Tag.{composite}
 use Rattle.fields.specs.Field.{Field, Fields, Placed, fields, tagOf, lengthOf, whole, content, after, front, parts, size, sizes, placed, placedParts}
 use Rattle.fields.specs.Field.Field.{field}
 use Rattle.fields.specs.Field.Fields.{end, next}
+use Rattle.fields.proofs.Lists.{Every}
 use Rattle.fields.proofs.Reading.{fields-next, fields-end, front-whole, by-fields}
 use Rattle.fields.proofs.Places.{front-size}
 use Rattle.fields.proofs.Parts.{parts-bytes}
@@ -51,11 +52,6 @@ module _ (n : ℕ) (s : List ℕ) (w : whole (take n s) ≡ true) where
   -- and what is behind it is what is left of those n bytes
   pub after-inside : after (take n s) ≡ take (n - (3 + lengthOf s)) (after s)
   after-inside = rw same-length (drop-take (3 + lengthOf s) n s)
-
--- every element of a list
-abbrev pub Every : {A : Type 0} → (A → Type 0) → List A → Type 0
-Every P [] = Unit {0}
-Every P (x ∷ xs) = P x × Every P xs
 
 -- p is the field that the file has at its place
 abbrev pub Stands : List ℕ → Placed → Type 0

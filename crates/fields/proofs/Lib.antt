@@ -1,5 +1,6 @@
 pub mod Bools
 pub mod Told
+pub mod Lists
 pub mod Slices
 pub mod Reading
 pub mod Steps
@@ -10,6 +11,7 @@ pub mod Inside
 pub mod Prefix
 pub mod Encoding
 pub mod Ranges
+pub mod Below
 pub mod Tables
 pub mod Texts
 pub mod Writing

@@ -11,6 +11,7 @@ use Rattle.fields.specs.Lists.{filter}
 use Rattle.fields.specs.Tag.{between}
 use Rattle.fields.specs.Field.{Field, Fields, fields, tagOf, lengthOf, whole, content, after, front, tag, row, fieldsFrom}
 use Rattle.fields.specs.Field.Fields.{end, next}
+use Rattle.fields.proofs.Lists.{filter-append}
 use Rattle.fields.proofs.Reading.{fields-next, fields-end, after-less, by-fields}
 use Rattle.fields.proofs.Inside.{front-inside, whole-inside, same-length}
 
@@ -33,16 +34,6 @@ pub joined-rest : (fs gs : Fields) → restOf (joined fs gs) ≡ restOf gs
 unfolding joined restOf
 joined-rest (end r) gs = refl
 joined-rest (next f fs) gs = joined-rest fs gs
-
-filter-append : (p : Field → Bool) (l m : List Field) → filter p (l ++ m) ≡ filter p l ++ filter p m
-unfolding filter
-filter-append p [] m = refl
-filter-append p (f ∷ l) m = go (p f) (filter-append p l m)
-  where
-    go : (k : Bool) → filter p (l ++ m) ≡ filter p l ++ filter p m →
-        cond k (f ∷ filter p (l ++ m)) (filter p (l ++ m)) ≡ cond k (f ∷ filter p l) (filter p l) ++ filter p m
-    go true e = ap (λ l. f ∷ l) e
-    go false e = e
 
 pub joined-from : (low high : ℕ) (fs gs : Fields) → fieldsFrom low high (joined fs gs) ≡ fieldsFrom low high fs ++ fieldsFrom low high gs
 unfolding fieldsFrom

@@ -2,4 +2,5 @@
 pub mod bytes;
 pub mod cursor;
 pub mod front;
+pub mod table;
 pub mod tag;

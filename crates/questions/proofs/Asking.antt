@@ -21,7 +21,7 @@ use Rattle.fields.proofs.Reading.{fields-next, fields-end, front-whole, content
 use Rattle.fields.proofs.Places.{front-size, content-length}
 use Rattle.fields.proofs.Parts.{tag-front}
 use Rattle.fields.proofs.Steps.{PartFound, part-is, cut-is, end-is}
-use Rattle.fields.proofs.Tables.{holdsBelow, implies, implied}
+use Rattle.fields.proofs.Below.{holdsBelow, implies, implied}
 use Rattle.questions.specs.Grammar.{grammar, slotsIn, slotsOf, advance, complete}
 use Rattle.questions.specs.Slots.{slotList, leftBy}
 use Rattle.questions.specs.Questions.{Asked, _andThen_, ask, contentAllowed, depthInside, askField, askFields}

@@ -1,0 +1,5 @@
+pub mod Integers
+pub mod Equality
+pub mod Itself
+pub mod Comparing
+pub mod Examples
