@@ -8,14 +8,14 @@ use native.Mathlib.Numerals.{add-one}
 use native.Mathlib.Nat.{add-zero, add-suc}
 use borrow.Author.Tests.{leb-true}
 use lib.Dec.{leb}
-use lib.ListN.{length, drop, length-drop}
-use lib.Seq.{drop-drop, drop-length}
+use lib.ListN.{length, getD, drop, length-drop}
+use lib.Seq.{drop-drop, drop-length, getD-drop}
 use Rattle.fields.specs.Lists.{filter}
 use Rattle.fields.specs.Tag.{between}
-use Rattle.fields.specs.Field.{Field, Fields, Placed, fields, tagOf, lengthOf, whole, after, nth, front, tag, row, fieldsFrom, placeFrom, from, fromNth, size, placed, placedFrom}
+use Rattle.fields.specs.Field.{Field, Fields, Placed, fields, tagOf, lengthOf, whole, after, nth, nothing, front, tag, row, fieldsFrom, placeFrom, from, fromNth, size, placed, placedFrom}
 use Rattle.fields.specs.Field.Field.{field}
 use Rattle.fields.specs.Field.Fields.{end, next}
-use Rattle.fields.proofs.Reading.{fields-next, fields-end, after-none, after-less, by-fields}
+use Rattle.fields.proofs.Reading.{fields-next, fields-end, front-none, after-none, after-less, by-fields}
 use Rattle.fields.proofs.Places.{front-size}
 use Rattle.fields.proofs.Parts.{tag-front}
 
@@ -148,3 +148,24 @@ module _ (low high : ℕ) where
   unfolding fromNth
   nth-whole zero s h = from-whole s h
   nth-whole (suc n) s h = from-whole (after (fromNth low high n s)) h
+
+  -- the row from the n-th of the range on
+  pub nth-row : (n : ℕ) (s : List ℕ) → drop n (fieldsFrom low high (fields s)) ≡ ahead (fromNth low high n s)
+  unfolding fromNth
+  nth-row zero s = from-row s
+  nth-row (suc n) s = drop-one n (fieldsFrom low high (fields s)) ∙ rw (nth-row n s) (go (fromNth low high n s) _ refl)
+    where
+      go : (t : List ℕ) (w : Bool) → whole t ≡ w → drop 1 (ahead t) ≡ ahead (from low high (after t))
+      go t true w = rw w (from-row (after t))
+      go t false w = rw (w, after-none t w, from-end [] refl)
+
+  pub nth-of-row : (n : ℕ) (s : List ℕ) → front (fromNth low high n s) ≡ getD (fieldsFrom low high (fields s)) n nothing
+  nth-of-row n s = go (fromNth low high n s) (nth-row n s) _ refl
+    where
+      first : getD (drop n (fieldsFrom low high (fields s))) 0 nothing ≡ getD (fieldsFrom low high (fields s)) n nothing
+      first = getD-drop n (fieldsFrom low high (fields s)) 0 nothing ∙ ap (λ k. getD (fieldsFrom low high (fields s)) k nothing) (add-zero n)
+
+      go : (t : List ℕ) → drop n (fieldsFrom low high (fields s)) ≡ ahead t → (w : Bool) → whole t ≡ w →
+          front t ≡ getD (fieldsFrom low high (fields s)) n nothing
+      go t e true w = rw (w) at (ap (λ l. getD l 0 nothing) (sym e) ∙ first)
+      go t e false w = front-none t w ∙ (rw (w) at (ap (λ l. getD l 0 nothing) (sym e) ∙ first))

@@ -3,3 +3,4 @@ pub mod Left
 pub mod Asking
 pub mod Naming
 pub mod Examples
+pub mod Accessors

@@ -4,3 +4,4 @@ pub mod Slots
 pub mod Questions
 pub mod Answers
 pub mod Room
+pub mod Shown

@@ -5,3 +5,4 @@ pub mod Visits
 pub mod Callers
 pub mod Calls
 pub mod Examples
+pub mod Nodes

@@ -1,3 +1,4 @@
 pub mod Walking
 pub mod Table
 pub mod Assets
+pub mod Node

@@ -90,6 +90,10 @@ isDebit f =
 unfoldable pub isPayout : Field → Bool
 isPayout f = eqb (tag f) Call && sameBytes (ident (part 0 f)) (bytes "send_asset") && present (part 3 f)
 
+-- the p of `p.amount`, p an identifier, unpeeled; none of anything else
+unfoldable pub assetAmountBacker : Field → List ℕ
+assetAmountBacker f = cond (eqb (tag f) Member && sameBytes (text (part 1 f)) (bytes "amount")) (ident (part 0 f)) []
+
 -- an asset parameter has the type name Q_Asset
 unfoldable pub isAssetParameter : Field → Bool
 isAssetParameter p = sameBytes (text (part 1 p)) (bytes "Q_Asset")

@@ -1,0 +1,14 @@
+-- The genesis fields are selected by their tag, and each holds one statement.
+use borrow.Author.Needs.{needs}
+use Rattle.questions.specs.Model.{genesis}
+use Rattle.questions.proofs.Accessors.{inner-nth}
+use Rattle.questions.proofs.model.nth_genesis.Statement.{statement}
+use Rattle.questions.proofs.model.nth_genesis.Tie as tie
+
+pub nth-genesis-spec : {M : Type 1} → statement M
+unfolding genesis
+nth-genesis-spec =
+    tie.close (tie.spec
+    (λ c κs. search needs)  -- nth-from-requires
+    (λ c κs. search needs)  -- part-of-requires
+    (λ c. search inner-nth))  -- returns

@@ -1,0 +1,13 @@
+-- The state fields are selected by their tag.
+use borrow.Author.Needs.{needs}
+use Rattle.questions.specs.Model.{states}
+use Rattle.questions.proofs.Accessors.{shown-nth}
+use Rattle.questions.proofs.model.nth_state.Statement.{statement}
+use Rattle.questions.proofs.model.nth_state.Tie as tie
+
+pub nth-state-spec : {M : Type 1} → statement M
+unfolding states
+nth-state-spec =
+    tie.close (tie.spec
+    (λ c κs. search needs)  -- nth-from-requires
+    (λ c. search shown-nth))  -- returns

@@ -1,0 +1,60 @@
+// The model by numbers, counted from 0 in file order. Of the file, an answer is the part from the field on, so its place is
+// the file's length less the answer's; where there is no such field it holds none.
+use fields::front::nth_from;
+use fields::front::part_of;
+use fields::front::parts_of;
+use fields::tag::DENIES;
+use fields::tag::ENTRY;
+use fields::tag::EXPRESSION_STATEMENT;
+use fields::tag::GENESIS;
+use fields::tag::GUARD;
+use fields::tag::LIMITS;
+use fields::tag::PARAMETER;
+use fields::tag::STATE;
+ghost use mathlib.Core.Path.{_≡_};
+ghost use lib.ListN.{take, drop, getD};
+ghost use Rattle.fields.specs.Field.{fields, front, nothing};
+ghost use Rattle.questions.specs.Model.{states, genesis, entries, params, clauses, body};
+ghost use Rattle.questions.specs.Shown.{shown};
+
+// The file from its n-th state field on.
+pub fn nth_state(file: &[u8], n: usize) -> &[u8]
+    ensures { λ r. ⌜ shown (now (file .entry)) (now r) ≡ take 1 (drop n (states (fields (now (file .entry))))) ⌝ }
+{
+    nth_from(file, STATE, STATE, n)
+}
+
+// The file from its n-th entry on.
+pub fn nth_entry(file: &[u8], n: usize) -> &[u8]
+    ensures { λ r. ⌜ shown (now (file .entry)) (now r) ≡ take 1 (drop n (entries (fields (now (file .entry))))) ⌝ }
+{
+    nth_from(file, ENTRY, ENTRY, n)
+}
+
+// Its n-th genesis statement.
+pub fn nth_genesis(file: &[u8], n: usize) -> &[u8]
+    ensures { λ r. ⌜ front (now r) ≡ getD (genesis (fields (now (file .entry)))) n nothing ⌝ }
+{
+    part_of(nth_from(file, GENESIS, GENESIS, n), 0)
+}
+
+// The n-th parameter of the entry at the front of s.
+pub fn nth_parameter(s: &[u8], n: usize) -> &[u8]
+    ensures { λ r. ⌜ front (now r) ≡ getD (params (front (now (s .entry)))) n nothing ⌝ }
+{
+    nth_from(parts_of(s), PARAMETER, PARAMETER, n)
+}
+
+// Its n-th clause.
+pub fn nth_clause(s: &[u8], n: usize) -> &[u8]
+    ensures { λ r. ⌜ front (now r) ≡ getD (clauses (front (now (s .entry)))) n nothing ⌝ }
+{
+    nth_from(parts_of(s), LIMITS, DENIES, n)
+}
+
+// Its n-th body statement.
+pub fn nth_statement(s: &[u8], n: usize) -> &[u8]
+    ensures { λ r. ⌜ front (now r) ≡ getD (body (front (now (s .entry)))) n nothing ⌝ }
+{
+    nth_from(parts_of(s), GUARD, EXPRESSION_STATEMENT, n)
+}
