@@ -18,12 +18,13 @@ unfoldable pub wrappingInside : ℕ → Bool → Bool
 wrappingInside t wrapping = eqb t Wrapping || not (eqb t Checked) && wrapping
 
 unfoldable mutual
-  -- true if the peeled amount equals the backing, else what its first part says where the rule goes there; others are false
+  -- true if the peeled amount equals the backing; else what the amount's first part says, where the rule goes there, and
+  -- false where it does not
   pub boundedByBacking : Field → Field → Bool → Bool
   boundedByBacking (field t x ps) backing wrapping =
       exprEq backing (peel (field t x ps)) || goesLeft t wrapping && leftBounded ps backing (wrappingInside t wrapping)
 
-  -- the same of the first of some parts
+  -- the same of the first of some parts; false where there is none
   pub leftBounded : Fields → Field → Bool → Bool
   leftBounded (end r) backing wrapping = false
   leftBounded (next f fs) backing wrapping = boundedByBacking f backing wrapping
