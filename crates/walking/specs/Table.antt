@@ -1,10 +1,8 @@
 -- What a table of places holds after a walk.
 use Prim.Native.Nat.{ℕ, _+_, _^_, _%_, _<_}
-use mathlib.Core.Path.{_≡_}
 use mathlib.Core.List.{List, map}
 use lib.Dec.{eqb}
 use lib.ListN.{length, drop}
-use lib.Seq.{sets}
 use Rattle.fields.specs.Lists.{filter}
 use Rattle.fields.specs.Field.{Placed, front, tag}
 
