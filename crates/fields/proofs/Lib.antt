@@ -13,6 +13,9 @@ pub mod Encoding
 pub mod Ranges
 pub mod Below
 pub mod Tables
+pub mod Listing
+pub mod Seeking
+pub mod Choosing
 pub mod Texts
 pub mod Writing
 pub mod Examples

@@ -39,10 +39,11 @@ module _ {A : Type 0} where
     every-filter f [] p = tt
     every-filter f (x ∷ xs) p = let q = every-filter f xs (p .1) in chosen (Every P) (f x) (p .0, q) q
 
-    pub every-flatMap : (g : A → List A) (l : List A) → ((x : A) → P x → Every P (g x)) → Every P l → Every P (flatMap g l)
-    unfolding flatMap
-    every-flatMap g [] h p = tt
-    every-flatMap g (x ∷ xs) h p = every-append (g x) (flatMap g xs) (h x (p .0)) (every-flatMap g xs h (p .1))
+module _ {A B : Type 0} (P : A → Type 0) (Q : B → Type 0) (g : A → List B) (h : (x : A) → P x → Every Q (g x)) where
+  pub every-flatMap : (l : List A) → Every P l → Every Q (flatMap g l)
+  unfolding flatMap
+  every-flatMap [] p = tt
+  every-flatMap (x ∷ xs) p = every-append Q (g x) (flatMap g xs) (h x (p .0)) (every-flatMap xs (p .1))
 
 -- to take only what passes a test first changes nothing, where a later test implies it
 module _ {A : Type 0} (f g : A → Bool) (implies : (x : A) → f x ≡ true → g x ≡ true) where

@@ -39,6 +39,11 @@ tree-size =
 pub front-size : (s : List ℕ) → whole s ≡ true → size (front s) ≡ 3 + lengthOf s
 front-size s w = size-by s w (tree-size (content s))
 
+-- a field's parts stand inside it, behind its head
+pub parts-inside : (f : Field) → 3 + sizes (parts f) ≤ size f
+unfolding size
+parts-inside (field t x ps) = omega arith
+
 -- The n-th field of s stands where the sizes of the fields before it say
 
 pub nth-after : (n : ℕ) (s : List ℕ) → nth n (fields (after s)) ≡ nth (suc n) (fields s)

@@ -19,7 +19,7 @@ use Rattle.fields.proofs.Reading.{fields-next, fields-end, front-none, 
 use Rattle.fields.proofs.Places.{front-size}
 use Rattle.fields.proofs.Parts.{tag-front}
 
-after-size : (s : List ℕ) → whole s ≡ true → length s ≡ 3 + lengthOf s + length (after s)
+pub after-size : (s : List ℕ) → whole s ≡ true → length s ≡ 3 + lengthOf s + length (after s)
 after-size s w = omega (arith, leb-true (3 + lengthOf s) (length s) w, length-drop (3 + lengthOf s) s)
 
 after-no-longer : (s : List ℕ) {n : ℕ} → length s ≤ n → length (after s) ≤ n
@@ -58,7 +58,7 @@ module _ (low high : ℕ) where
       go s w a true b = rw (from-here s w b, w, fields-next s w, b)
       go s w a false b = rw (from-on s w b, fields-next s w, b) a
 
-  from-shorter : (s : List ℕ) → length (from low high s) ≤ length s
+  pub from-shorter : (s : List ℕ) → length (from low high s) ≤ length s
   from-shorter s = rw (length-drop (placeFrom low high (fields s)) s) (omega arith)
 
   -- why a loop over the fields of a range ends
@@ -115,15 +115,19 @@ module _ (low high : ℕ) where
       omega (arith, after-no-longer t h) in
       rw (e, f)
 
+  pub rest-next : (k : ℕ) (s t : List ℕ) → length t ≤ length s →
+      placedFrom low high (k + (length s - length (after t))) (fields (after t)) ≡ restOf k s (from low high (after t))
+  rest-next k s t h =
+      from-placed (after t) (k + (length s - length (after t)))
+      ∙ rest-shift k s (after t) (from low high (after t)) (from-shorter (after t)) (after-no-longer t h)
+
   pub nth-placed : (n : ℕ) (s : List ℕ) (k : ℕ) → drop n (placedFrom low high k (fields s)) ≡ restOf k s (fromNth low high n s)
   unfolding fromNth
   nth-placed zero s k = from-placed s k
   nth-placed (suc n) s k = drop-one n (placedFrom low high k (fields s)) ∙ rw (nth-placed n s k) (go (fromNth low high n s) (nth-shorter n s) _ refl)
     where
       go : (t : List ℕ) → length t ≤ length s → (w : Bool) → whole t ≡ w → drop 1 (restOf k s t) ≡ restOf k s (from low high (after t))
-      go t h true w =
-          rw w (from-placed (after t) (k + (length s - length (after t)))
-          ∙ rest-shift k s (after t) (from low high (after t)) (from-shorter (after t)) (after-no-longer t h))
+      go t h true w = rw w (rest-next k s t h)
       go t h false w = rw (w, after-none t w, from-end [] refl)
 
   -- behind the end there is nothing, however far
@@ -169,3 +173,15 @@ module _ (low high : ℕ) where
           front t ≡ getD (fieldsFrom low high (fields s)) n nothing
       go t e true w = rw (w) at (ap (λ l. getD l 0 nothing) (sym e) ∙ first)
       go t e false w = front-none t w ∙ (rw (w) at (ap (λ l. getD l 0 nothing) (sym e) ∙ first))
+
+  -- the fields of the range are the same with places and without
+  pub placed-row : (n : ℕ) (fs : Fields) → map (λ p. p .this) (placedFrom low high n fs) ≡ fieldsFrom low high fs
+  unfolding placedFrom placed fieldsFrom filter row
+  placed-row n (end r) = refl
+  placed-row n (next f fs) = go (between low high (tag f)) (placed-row (n + size f) fs)
+    where
+      go : (b : Bool) → map (λ p. p .this) (placedFrom low high (n + size f) fs) ≡ fieldsFrom low high fs →
+          map (λ p. p .this) (cond b (record { place = n; this = f } ∷ placedFrom low high (n + size f) fs) (placedFrom low high (n + size f) fs))
+          ≡ cond b (f ∷ fieldsFrom low high fs) (fieldsFrom low high fs)
+      go true e = rw e
+      go false e = e

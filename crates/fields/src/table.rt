@@ -1,7 +1,9 @@
 // A table of 16-bit numbers that a caller lends.
+ghost use mathlib.Core.Path.{_≡_};
 ghost use mathlib.Core.Bool.{cond};
 ghost use mathlib.Core.List.{[], _∷_};
 ghost use Prim.Native.Nat.{_+_, _^_, _<_};
+ghost use lib.ListN.{getD};
 ghost use Rattle.fields.specs.Table.{Listed};
 
 // Writes a number at n of the table, where hit says so and there is room, and answers where the next one goes. What has no
@@ -18,4 +20,20 @@ pub fn note(hit: bool, number: usize, table: &mut [u16], n: usize) -> usize
         return n + 1;
     }
     n + 1
+}
+
+fn wide(number: u16) -> usize
+    ensures { λ r. ⌜ r ≡ number ⌝ }
+{
+    number as usize
+}
+
+// The number at i of a table; 0 past its end.
+pub fn number_at(table: &[u16], i: usize) -> usize
+    ensures { λ r. ⌜ r ≡ getD (now (table .entry)) i 0 ⌝ }
+{
+    if i < table.len() {
+        return wide(table[i]);
+    }
+    0
 }

@@ -1,7 +1,7 @@
 -- Asset parameters are met one after the other: those that are left behind the one at hand are all that are left.
 use Prim.Native.Nat.{ℕ, suc, _+_, _-_, _^_, _≤_, _<_}
 use mathlib.Core.Path.{_≡_, refl, sym, ap, _∙_}
-use mathlib.Core.Bool.{Bool, true, false, cond, _&&_}
+use mathlib.Core.Bool.{Bool, true, false, _&&_}
 use mathlib.Core.List.{List, [], _∷_, map}
 use native.Mathlib.Omega.{arith}
 use borrow.Author.Tests.{ltb-true, ltb-false}
@@ -9,53 +9,13 @@ use mir.Syntax.{w64}
 use mir.Val.{Fits}
 use lib.Dec.{ltb}
 use lib.ListN.{length, getD, take, drop, length-take, length-drop}
-use Rattle.fields.specs.Lists.{any, filter, sameBytes}
-use Rattle.fields.specs.Tag.{Parameter}
-use Rattle.fields.specs.Field.{Field, fields, whole, after, front, parts, nth, sizes, from, fieldsFrom}
+use Rattle.fields.specs.Lists.{any, sameBytes}
+use Rattle.fields.specs.Field.{fields, whole, after, front, parts, nth, sizes}
 use Rattle.fields.proofs.Bools.{and-left, and-right}
 use Rattle.fields.proofs.Reading.{front-none, after-less, after-shorter}
-use Rattle.fields.proofs.Rows.{from-row}
 use Rattle.questions.specs.Model.{nameOf, params}
-use Rattle.walking.specs.Walking.{isAssetParameter, assetParams}
+use Rattle.walking.specs.Walking.{assetParams}
 use Rattle.walking.specs.Assets.{assetsIn, assetsFrom}
-
--- the parameters from the one at the front of t on
-abbrev parametersFrom : List ℕ → List Field
-parametersFrom t = cond (whole t) (front t ∷ fieldsFrom Parameter Parameter (fields (after t))) []
-
-from-within : (s x : List ℕ) → x ≡ from Parameter Parameter s → length x ≤ length s
-from-within s x e = rw (e, length-drop) (omega arith)
-
--- the asset parameters of s are those among the parameters from t on
-pub record Seeking (s t : List ℕ) : Type 0 where
-  pub within : length t ≤ length s
-  pub left : assetsIn (fields s) ≡ filter isAssetParameter (parametersFrom t)
-
-pub seeking-first : (s x : List ℕ) → x ≡ from Parameter Parameter s → Seeking s x
-seeking-first s x e =
-    record { within = from-within s x e; left = rw e (ap (filter isAssetParameter) (from-row Parameter Parameter s)) }
-
-module _ (s t : List ℕ) (i : Seeking s t) where
-  pub seeking-none : whole t ≡ false → assetsIn (fields s) ≡ assetsFrom t
-  unfolding filter
-  seeking-none w = i .left ∙ rw w
-
-  module _ (w : whole t ≡ true) where
-    pub seeking-here : isAssetParameter (front t) ≡ true → assetsIn (fields s) ≡ assetsFrom t
-    unfolding filter
-    seeking-here a = i .left ∙ rw (w, a)
-
-    module _ (y : List ℕ) (e : y ≡ after t) (x : List ℕ) (f : x ≡ from Parameter Parameter y) where
-      pub seeking-on : isAssetParameter (front t) ≡ false → Seeking s x
-      unfolding filter
-      seeking-on a =
-          record {
-            within = omega (arith, i .within, from-within y x f, after-less t y w e);
-            left = rw (w, a, ← e) at (i .left) ∙ seeking-first y x f .left;
-          }
-
-      pub seeking-falls : length x < length t
-      seeking-falls = omega (arith, from-within y x f, after-less t y w e)
 
 -- Going through the asset parameters of the entry at the front of s, from t on
 

@@ -104,7 +104,7 @@ statement-stands file p e =
 
 pub body-stands : (file : List ℕ) (p : Placed) → Stands file p → Every (Stands file) (bodyExprs p)
 unfolding bodyExprs
-body-stands file p e = every-flatMap (Stands file) stmtExprs (placedParts p) (statement-stands file) (parts-stand file p e)
+body-stands file p e = every-flatMap (Stands file) (Stands file) stmtExprs (statement-stands file) (placedParts p) (parts-stand file p e)
 
 -- so the file gives the fields back
 pub read-back : (file : List ℕ) (ps : List Placed) → Every (Stands file) ps → map (λ n. front (drop n file)) (map (λ p. p .place) ps) ≡ withoutPlaces ps

@@ -11,6 +11,7 @@ use Rattle.fields.specs.Field.{Field, Fields, Placed, tag, parts, size, sizes, 
 use Rattle.fields.specs.Field.Field.{field}
 use Rattle.fields.specs.Field.Fields.{end, next}
 use Rattle.fields.proofs.Lists.{chosen}
+use Rattle.fields.proofs.Places.{parts-inside}
 use Rattle.walking.specs.Walking.{walk, walkParts, stmtExprs, bodyExprs}
 
 -- the places increase from `low` on, by three at least, and the three bytes of each head end at `high` or before it
@@ -52,11 +53,6 @@ mutual
   parts-within n (next f fs) =
       rw (← add-assoc n (size f) (sizes fs))
       (within-append n (n + size f) _ (walk n f) (walkParts (n + size f) fs) (walk-within n f) (parts-within (n + size f) fs))
-
--- a field's parts stand inside it
-parts-inside : (f : Field) → 3 + sizes (parts f) ≤ size f
-unfolding size
-parts-inside (field t x ps) = omega arith
 
 -- the expressions of a statement, and those of a body
 pub statement-within : (p : Placed) → Within (p .place) (p .place + size (p .this)) (stmtExprs p)

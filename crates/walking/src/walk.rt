@@ -14,8 +14,8 @@ use fields::tag::is_statement;
 ghost use mathlib.Core.List.{flatMap};
 ghost use Rattle.fields.specs.Field.{fields, front, placed};
 ghost use Rattle.walking.specs.Walking.{walk, walkParts, stmtExprs, bodyExprs};
-ghost use Rattle.fields.specs.Table.{Listed};
-ghost use Rattle.walking.specs.Table.{placedAt, placesOf, Room};
+ghost use Rattle.fields.specs.Table.{Listed, Room};
+ghost use Rattle.walking.specs.Table.{placedAt, placesOf};
 
 // Lists the expressions of the field at the front of s, which stands at base, from n of the table on. Two bytes hold every
 // place of a file that passes question 1; of a longer one they hold the place modulo 65,536, so that the walk asks nothing

@@ -14,10 +14,10 @@ use Rattle.fields.specs.Field.{fields, lengthOf, whole, front, parts, sizes, pl
 use Rattle.fields.proofs.Told.{told}
 use Rattle.fields.proofs.Reading.{front-none}
 use Rattle.walking.specs.Walking.{stmtExprs, bodyExprs}
-use Rattle.fields.specs.Table.{Listed}
-use Rattle.walking.specs.Table.{placedAt, placesOf, Room}
+use Rattle.fields.specs.Table.{Listed, Room}
+use Rattle.walking.specs.Table.{placedAt, placesOf}
 use Rattle.fields.proofs.Tables.{listed-none}
-use Rattle.walking.proofs.Visits.{parts-shorter}
+use Rattle.fields.proofs.Listing.{parts-shorter}
 use Rattle.walking.proofs.walk.list_body.Statement.{statement}
 use Rattle.walking.proofs.walk.list_body.Tie as tie
 
@@ -36,7 +36,7 @@ module _ (file : List ℕ) (place wanted : ℕ) (t s : List ℕ) (e : s ≡ drop
     entry-room : (x : List ℕ) → x ≡ take (sizes (parts (front s))) (drop 3 s) → Room x (place + 3) 0
     entry-room x f =
         let l : length s ≡ length file - place = rw (e, length-drop) in
-        let k = parts-shorter s x w f in
+        let k = parts-shorter s w x f in
         record { place = omega (arith, long); count = omega (arith, long) }
 
   entry-body : (x : List ℕ) → fields x ≡ parts (front s) → (u : List ℕ) (r : ℕ) →

@@ -7,7 +7,9 @@ use Rattle.fields.specs.Field.{placed}
 use Rattle.fields.proofs.Told.{told}
 use Rattle.fields.proofs.Reading.{after-less}
 use Rattle.walking.specs.Walking.{stmtExprs}
-use Rattle.walking.proofs.Visits.{statements, along-fits, Listing, listing-all, listing-on, listing-done}
+use Rattle.walking.specs.Table.{placesOf}
+use Rattle.fields.proofs.Listing.{along-fits, Listing, listing-all, listing-on, listing-done}
+use Rattle.walking.proofs.Visits.{statements}
 use Rattle.walking.proofs.walk.visit_statements.Statement.{statement}
 use Rattle.walking.proofs.walk.visit_statements.Tie as tie
 
@@ -15,7 +17,7 @@ pub visit-statements-spec : {M : Type 1} → statement M
 visit-statements-spec =
     tie.close
     (tie.spec
-    (λ s base tag table₀ n t₀ at₀ m₀ table t at m. Listing (λ k fs. flatMap stmtExprs (placed k fs)) s base tag table₀ n table t at m)  -- Inv-loop
+    (λ s base tag table₀ n t₀ at₀ m₀ table t at m. Listing (λ t k fs. placesOf t (flatMap stmtExprs (placed k fs))) tag s base table₀ n table t at m)  -- Inv-loop
     (λ s base tag table₀ n t₀ at₀ m₀ table t at m. length t)  -- μ-loop
     (λ c. search listing-all)  -- loop-holds
     (λ c κs. search needs)  -- is-whole-requires
