@@ -8,14 +8,14 @@ use Rattle.fields.specs.Field.{Field, Fields, Placed, tag, parts, size, placedF
 use Rattle.fields.specs.Field.Field.{field}
 use Rattle.fields.specs.Field.Fields.{end, next}
 
--- a condition is a field at a place, with the mark "flipped"
+-- a condition is an expression at a place, with the mark "flipped": its comparison is meant the other way round
 pub record Condition : Type 0 where
   pub place : ℕ
   pub flipped : Bool
   pub this : Field
 
 unfoldable mutual
-  -- And is split, unpeeled
+  -- an expression that is required: And is split, unpeeled
   pub splitAnd : ℕ → Field → List Condition
   splitAnd n (field t x ps) =
       cond (eqb t And) (splitEach (n + 3) ps) (record { place = n; flipped = false; this = field t x ps } ∷ [])
@@ -31,13 +31,15 @@ splitFirst n (end r) = []
 splitFirst n (next f fs) = splitAnd n f
 
 unfoldable mutual
-  -- a denial, unpeeled: `not e` gives e; Or gives both negations; a comparison is flipped; others give nothing
+  -- an expression that is denied, unpeeled: `not e` gives e, split; Or gives both negations; a comparison is flipped; others
+  -- give nothing
   pub negated : ℕ → Field → List Condition
   negated n (field t x ps) =
       cond (eqb t Not) (splitFirst (n + 3) ps)
       (cond (eqb t Or) (negatedEach (n + 3) ps)
       (cond (between Eq Ge t) (record { place = n; flipped = true; this = field t x ps } ∷ []) []))
 
+  -- each of some parts
   pub negatedEach : ℕ → Fields → List Condition
   negatedEach n (end r) = []
   negatedEach n (next f fs) = negated n f ++ negatedEach (n + size f) fs
@@ -47,19 +49,18 @@ unfoldable pub negatedFirst : ℕ → Fields → List Condition
 negatedFirst n (end r) = []
 negatedFirst n (next f fs) = negated n f
 
--- of a clause: a limit as it is, a denial negated
-unfoldable pub clauseConditions : Placed → List Condition
-clauseConditions p =
-    cond (eqb (tag (p .this)) Limits) (splitFirst (p .place + 3) (parts (p .this))) (negatedFirst (p .place + 3) (parts (p .this)))
+-- of a clause or a guard: a denial is negated, a limit and a guard stand as they are
+unfoldable pub conditionsOf : Placed → List Condition
+conditionsOf p =
+    cond (eqb (tag (p .this)) Denies) (negatedFirst (p .place + 3) (parts (p .this))) (splitFirst (p .place + 3) (parts (p .this)))
 
--- of a guard
-unfoldable pub guardConditions : Placed → List Condition
-guardConditions p = splitFirst (p .place + 3) (parts (p .this))
+-- of those parts whose tags are from `low` to `high`, the first part at a place
+abbrev pub conditionsFrom : (low high : ℕ) → ℕ → Fields → List Condition
+conditionsFrom low high n fs = flatMap conditionsOf (placedFrom low high n fs)
 
--- of an entry, with places counted from the entry's own
+-- of an entry: its clauses, then the guards of its body, with places counted from the entry's own
 unfoldable pub requiredConditions : Field → List Condition
-requiredConditions entry =
-    flatMap clauseConditions (placedFrom Limits Denies 3 (parts entry)) ++ flatMap guardConditions (placedFrom Guard Guard 3 (parts entry))
+requiredConditions entry = conditionsFrom Limits Denies 3 (parts entry) ++ conditionsFrom Guard Guard 3 (parts entry)
 
 -- Eq/Ne, Lt/Ge, Gt/Le trade places
 unfoldable pub opposite : ℕ → ℕ
