@@ -1,0 +1,25 @@
+-- Going through tokens with the one that was found so far, and through the entries that fund a map.
+use Prim.Native.Nat.{ℕ}
+use mathlib.Core.Bool.{cond}
+use mathlib.Core.List.{List, [], _∷_}
+use Rattle.fields.specs.Lists.{filter, known}
+use Rattle.fields.specs.Tag.{Entry}
+use Rattle.fields.specs.Field.{Field, fields, whole, after, front, fieldsFrom}
+use Rattle.tokens.specs.Tokens.{single, tokenNamed, funds}
+use Rattle.conditions.specs.Table.{conditionAt}
+
+-- the second token if it is known, else the first
+unfoldable pub knownOf : List ℕ → List ℕ → List ℕ
+knownOf a b = cond (known b) b a
+
+-- the one token among the one found so far and those that are left; an unknown one counts for nothing
+unfoldable pub agreed : List ℕ → List (List ℕ) → List ℕ
+agreed a ts = single (filter known (a ∷ ts))
+
+-- the token that a number of the table of an entry's conditions stands for
+unfoldable pub tokenAt : List ℕ → ℕ → List ℕ
+tokenAt entry k = tokenNamed (conditionAt entry k)
+
+-- the entry at the front of s, which funds the map, and those behind it; none where no whole field stands there
+abbrev pub fundingFrom : List ℕ → List ℕ → List Field
+fundingFrom m s = cond (whole s) (front s ∷ filter (funds m) (fieldsFrom Entry Entry (fields (after s)))) []

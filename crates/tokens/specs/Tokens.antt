@@ -1,0 +1,68 @@
+-- The tokens that entries and maps are known to hold.
+use Prim.Native.Nat.{ℕ}
+use mathlib.Core.Bool.{Bool, cond, _&&_, not}
+use mathlib.Core.List.{List, [], _∷_, map, flatMap}
+use lib.Dec.{eqb}
+use Rattle.fields.specs.Lists.{any, all, filter, sameBytes, bytes, known}
+use Rattle.fields.specs.Tag.{InAsset, Eq}
+use Rattle.fields.specs.Field.{Field, Fields, tag, part}
+use Rattle.questions.specs.Model.{entries}
+use Rattle.walking.specs.Walking.{peel, withoutPlaces, exprs, ident, method, receiver, assetAmountBacker, assetParams}
+use Rattle.conditions.specs.Conditions.{Condition, requiredConditions, operator}
+
+-- A set of tokens is none, one or several
+
+-- the one token, where all that are listed are equal and there is one; else none
+unfoldable pub single : List (List ℕ) → List ℕ
+single [] = []
+single (t ∷ ts) = cond (all (sameBytes t) ts) t []
+
+-- both tokens are known and they differ
+unfoldable pub differ : List ℕ → List ℕ → Bool
+differ a b = known a && known b && not (sameBytes a b)
+
+-- Tokens that conditions name
+
+-- in-asset on one peeled side, and an identifier on the other peeled side: its name
+unfoldable pub besideInAsset : Field → List ℕ
+besideInAsset e =
+    cond (eqb (tag (peel (part 0 e))) InAsset) (ident (peel (part 1 e)))
+    (cond (eqb (tag (peel (part 1 e))) InAsset) (ident (peel (part 0 e))) [])
+
+-- a condition part that is itself, unpeeled and after any flipping, Eq names a token
+unfoldable pub tokenNamed : Condition → List ℕ
+tokenNamed c = cond (eqb (operator c) Eq) (besideInAsset (c .this)) []
+
+-- the tokens that an entry names
+unfoldable pub tokensNamed : Field → List (List ℕ)
+tokensNamed entry = filter known (map tokenNamed (requiredConditions entry))
+
+-- the one token the entry names, nothing if two differ
+unfoldable pub admittedInflowToken : Field → List ℕ
+admittedInflowToken entry = single (tokensNamed entry)
+
+-- Tokens that fund a map
+
+-- `p.amount`, p an asset parameter of the entry
+unfoldable pub isInflow : Field → Field → Bool
+isInflow entry e = any (sameBytes (assetAmountBacker e)) (assetParams entry)
+
+-- a call of a member credit, set or insert
+unfoldable pub isCredit : Field → Bool
+isCredit f = any (sameBytes (method f)) (bytes "credit" ∷ bytes "set" ∷ bytes "insert" ∷ [])
+
+-- a credit of the map with a second argument, peeled, `p.amount`
+unfoldable pub isFunding : List ℕ → Field → Field → Bool
+isFunding m entry f = isCredit f && sameBytes (receiver f) m && isInflow entry (peel (part 2 f))
+
+-- an entry that has one
+unfoldable pub funds : List ℕ → Field → Bool
+funds m entry = any (isFunding m entry) (exprs entry)
+
+-- all tokens named by entries that fund the map
+unfoldable pub ledgerFundingTokens : Fields → List ℕ → List (List ℕ)
+ledgerFundingTokens model m = flatMap tokensNamed (filter (funds m) (withoutPlaces (entries model)))
+
+-- the map's single funding token
+unfoldable pub fundingToken : Fields → List ℕ → List ℕ
+fundingToken model m = single (ledgerFundingTokens model m)

@@ -1,0 +1,6 @@
+// The tokens that entries and maps are known to hold.
+pub mod funding;
+pub mod inflow;
+pub mod naming;
+pub mod set;
+pub mod token;

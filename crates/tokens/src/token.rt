@@ -1,0 +1,64 @@
+// SPDX-License-Identifier: Apache-2.0 OR MIT
+// The token that an entry admits, and the one that funds a map. Each is a part of the file, and no token is the empty part.
+use super::funding::first_funding;
+use super::naming::token_at;
+use super::set::known_of;
+use super::set::tokens_differ;
+use conditions::list::list_conditions;
+use fields::front::after_front;
+use fields::front::is_whole;
+use fields::table::number_at;
+ghost use mathlib.Core.Path.{_≡_};
+ghost use Prim.Native.Nat.{_≤_};
+ghost use lib.ListN.{length};
+ghost use Rattle.fields.specs.Field.{fields, front};
+ghost use Rattle.tokens.specs.Tokens.{admittedInflowToken, fundingToken};
+
+// The one token that the entry at the front of s names; none where it names none, or two that differ.
+pub fn admitted_inflow_token(s: &[u8]) -> &[u8]
+    requires { ⌜ length (now s) ≤ 32768 ⌝ }
+    ensures { λ r. ⌜ now r ≡ admittedInflowToken (front (now (s .entry))) ⌝ }
+{
+    let mut table = [0u16; 10923];
+    let count = list_conditions(s, &mut table);
+    let mut found = &s[..0];
+    let mut i = 0;
+    while i < count {
+        let token = token_at(s, number_at(&table, i));
+        if tokens_differ(found, token) {
+            return &s[..0];
+        }
+        let known = known_of(found, token);
+        found = known;
+        i += 1;
+    }
+    found
+}
+
+// The one token named by the entries that fund the map; none where they name none, or two that differ.
+pub fn ledger_funding_token<'a>(file: &'a [u8], map: &[u8]) -> &'a [u8]
+    requires { ⌜ length (now file) ≤ 32768 ⌝ }
+    ensures { λ r. ⌜ now r ≡ fundingToken (fields (now (file .entry))) (now (map .entry)) ⌝ }
+{
+    let mut found = &file[..0];
+    let mut t = first_funding(file, map);
+    'search: loop {
+        if !is_whole(t) {
+            break found;
+        }
+        let mut table = [0u16; 10923];
+        let count = list_conditions(t, &mut table);
+        let mut i = 0;
+        while i < count {
+            let token = token_at(t, number_at(&table, i));
+            if tokens_differ(found, token) {
+                break 'search &file[..0];
+            }
+            let known = known_of(found, token);
+            found = known;
+            i += 1;
+        }
+        let u = first_funding(after_front(t), map);
+        t = u;
+    }
+}
