@@ -95,3 +95,18 @@ parts-bytes s = go (whole s && composite (tagOf s)) refl
     go false h =
         shown [] (no-parts s (whole s) (composite (tagOf s)) (tagOf s) refl refl refl h)
         (no-parts-shown s (whole s) (composite (tagOf s)) (tagOf s) refl refl refl h)
+
+-- and its text is the bytes behind its head
+pub text-bytes : (s : List ℕ) → text (front s) ≡ take (length (text (front s))) (drop 3 s)
+text-bytes s = go (whole s && not (composite (tagOf s))) refl
+  where
+    shown : (x : List ℕ) → x ≡ text (front s) → x ≡ take (length (text (front s))) (drop 3 s) → text (front s) ≡ take (length (text (front s))) (drop 3 s)
+    shown x e f = sym e ∙ f
+
+    go : (k : Bool) → whole s && not (composite (tagOf s)) ≡ k → text (front s) ≡ take (length (text (front s))) (drop 3 s)
+    go true h =
+        shown (content s) (text-front s (whole s) (composite (tagOf s)) (tagOf s) refl refl refl h (content s) refl)
+        (text-shown s (whole s) (composite (tagOf s)) (tagOf s) refl refl refl h (content s) refl)
+    go false h =
+        shown [] (no-text s (whole s) (composite (tagOf s)) (tagOf s) refl refl refl h)
+        (no-text-shown s (whole s) (composite (tagOf s)) (tagOf s) refl refl refl h)

@@ -3,14 +3,16 @@ use Prim.Native.Nat.{ℕ}
 use Prim.Native.String.{String}
 use mathlib.Core.Path.{_≡_, refl}
 use mathlib.Core.List.{List, [], _∷_, _++_, map, flatMap}
+use lib.ListN.{length}
 use Rattle.fields.specs.Lists.{any, all, filter, sameBytes, bytes, known}
 use Rattle.fields.specs.Tag.{Entry, Parameter, Limits, Denies, Guard, ExpressionStatement, InAsset, Caller, Member, Call, Checked, Wrapping, Not, Or, And, Eq, Ne, Lt, composite, isExpression, isStatement, isWrapper}
-use Rattle.fields.specs.Field.{fields, fieldsTo, front, nth, row, fieldsFrom, size, sizes, placed, placedFrom}
+use Rattle.fields.specs.Field.{fields, fieldsTo, front, nth, row, fieldsFrom, size, sizes, placed, placedFrom, placeOf}
 use Rattle.fields.proofs.Writing.{write, name, typeName, identifier}
 use Rattle.questions.specs.Model.{entries, params}
-use Rattle.walking.specs.Walking.{peel, peelFirst, walk, walkParts, stmtExprs, bodyExprs, exprs, ident, method, receiver, assetAmountBacker, isAssetParameter, assetParams}
+use Rattle.walking.specs.Walking.{peel, peelFirst, peelPlace, peelFirstPlace, walk, walkParts, stmtExprs, bodyExprs, exprs, ident, method, receiver, assetAmountBacker, isAssetParameter, assetParams}
 use Rattle.conditions.specs.Conditions.{splitAnd, splitEach, splitFirst, negated, negatedEach, negatedFirst, conditionsOf, requiredConditions, opposite, operator}
 use Rattle.tokens.specs.Tokens.{single, besideInAsset, tokenNamed, tokensNamed, admittedInflowToken, isInflow, isCredit, isFunding, funds, ledgerFundingTokens, fundingToken}
+use Rattle.tokens.specs.Place.{besidePlace, foundIn, foundOf, firstPlace, admittedPlace, fundingPlace}
 
 abbrev inAsset : List ℕ
 inAsset = write InAsset []
@@ -60,6 +62,18 @@ naming-none : admitted
 unfolding admitted
 naming-none = refl
 
+-- where the token stands: behind in-asset and its own head, on the left side, inside wrappers, in the first condition that names it
+places : List (List ℕ) → List ℕ
+unfolding filter known fields fieldsTo nth composite size sizes placed placedFrom placeOf flatMap isWrapper peel peelFirst peelPlace peelFirstPlace ident splitAnd splitEach splitFirst negated negatedEach negatedFirst conditionsOf requiredConditions opposite operator besideInAsset tokenNamed besidePlace foundIn foundOf firstPlace admittedPlace
+places cs = map (λ c. admittedPlace (length (entry c)) (front (entry c))) cs
+
+standing : places
+    (limits (holds "T") ∷ guard (write Eq (identifier "T" ++ inAsset)) ∷ guard (write Eq (write Checked inAsset ++ write Wrapping (identifier "T")))
+    ∷ (guard x ++ guard (holds "T")) ∷ (limits (holds "T") ++ guard (holds "T")) ∷ guard x ∷ [])
+    ≡ 19 ∷ 16 ∷ 25 ∷ 26 ∷ 19 ∷ 0 ∷ []
+unfolding places
+standing = refl
+
 -- an entry that names t and calls m.how(x, value)
 abbrev amount : String → List ℕ
 amount p = write Member (identifier p ++ name "amount")
@@ -95,3 +109,8 @@ funding-none : funded
     ≡ [] ∷ [] ∷ [] ∷ [] ∷ [] ∷ [] ∷ [] ∷ [] ∷ [] ∷ []
 unfolding funded
 funding-none = refl
+
+-- the place of the first of two entries that fund the map
+funding-place : fundingPlace 100 (fields (entry x ++ (funding "T" (credits "credit" (amount "a")) ++ funding "T" (credits "set" (amount "a"))))) (bytes "m") ≡ 47
+unfolding any filter sameBytes known fields fieldsTo nth composite size sizes placed placedFrom placeOf row fieldsFrom flatMap isExpression isStatement isWrapper entries params peel peelFirst peelPlace peelFirstPlace walk walkParts stmtExprs bodyExprs exprs ident method receiver assetAmountBacker isAssetParameter assetParams splitAnd splitEach splitFirst negated negatedEach negatedFirst conditionsOf requiredConditions opposite operator besideInAsset tokenNamed isInflow isCredit isFunding funds besidePlace foundIn foundOf firstPlace fundingPlace
+funding-place = refl

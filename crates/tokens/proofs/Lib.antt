@@ -4,3 +4,4 @@ pub mod Gathering
 pub mod Admitted
 pub mod Ledger
 pub mod Examples
+pub mod Shown

@@ -10,14 +10,16 @@ use fields::front::is_whole;
 use fields::table::number_at;
 ghost use mathlib.Core.Path.{_≡_};
 ghost use Prim.Native.Nat.{_≤_};
-ghost use lib.ListN.{length};
+ghost use lib.ListN.{length, take, drop};
 ghost use Rattle.fields.specs.Field.{fields, front};
 ghost use Rattle.tokens.specs.Tokens.{admittedInflowToken, fundingToken};
+ghost use Rattle.tokens.specs.Place.{admittedPlace, fundingPlace};
 
 // The one token that the entry at the front of s names; none where it names none, or two that differ.
 pub fn admitted_inflow_token(s: &[u8]) -> &[u8]
     requires { ⌜ length (now s) ≤ 32768 ⌝ }
-    ensures { λ r. ⌜ now r ≡ admittedInflowToken (front (now (s .entry))) ⌝ }
+    ensures reads { λ r. ⌜ now r ≡ admittedInflowToken (front (now (s .entry))) ⌝ }
+    ensures shows { λ r. ⌜ now r ≡ take (length (now r)) (drop (admittedPlace (length (now (s .entry))) (front (now (s .entry)))) (now (s .entry))) ⌝ }
 {
     let mut table = [0u16; 10923];
     let count = list_conditions(s, &mut table);
@@ -38,7 +40,8 @@ pub fn admitted_inflow_token(s: &[u8]) -> &[u8]
 // The one token named by the entries that fund the map; none where they name none, or two that differ.
 pub fn ledger_funding_token<'a>(file: &'a [u8], map: &[u8]) -> &'a [u8]
     requires { ⌜ length (now file) ≤ 32768 ⌝ }
-    ensures { λ r. ⌜ now r ≡ fundingToken (fields (now (file .entry))) (now (map .entry)) ⌝ }
+    ensures reads { λ r. ⌜ now r ≡ fundingToken (fields (now (file .entry))) (now (map .entry)) ⌝ }
+    ensures shows { λ r. ⌜ now r ≡ take (length (now r)) (drop (fundingPlace (length (now (file .entry))) (fields (now (file .entry))) (now (map .entry))) (now (file .entry))) ⌝ }
 {
     let mut found = &file[..0];
     let mut t = first_funding(file, map);

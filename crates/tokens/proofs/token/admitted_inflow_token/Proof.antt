@@ -1,5 +1,6 @@
 -- The token found so far and those ahead have the one token of all; two that differ leave none.
 use Prim.Native.Nat.{_-_}
+use mathlib.Core.Path.{refl}
 use mathlib.Core.List.{[]}
 use native.Mathlib.Omega.{arith}
 use borrow.Author.Needs.{needs}
@@ -7,6 +8,7 @@ use Rattle.fields.specs.Field.{front}
 use Rattle.tokens.specs.Tokens.{admittedInflowToken}
 use Rattle.tokens.specs.Agreed.{tokenAt}
 use Rattle.tokens.proofs.Gathering.{Gathering, gathering-differ, gathering-on}
+use Rattle.tokens.proofs.Shown.{admitted-there}
 use Rattle.tokens.proofs.Admitted.{gathering-all, gathered-all}
 use Rattle.tokens.proofs.token.admitted_inflow_token.Statement.{statement}
 use Rattle.tokens.proofs.token.admitted_inflow_token.Tie as tie
@@ -26,9 +28,9 @@ admitted-inflow-token-spec =
     (λ c κs. search needs)  -- token-at-requires
     (λ c κs. search needs)  -- tokens-differ-requires
     (λ c. search needs)  -- slice-aggregate-result
-    (λ c. search gathering-differ)  -- returns
+    (λ c. (search gathering-differ, refl))  -- returns
     (λ c κs. search needs)  -- known-of-requires
     (λ c. omega arith)  -- add-i
     (λ c. omega arith)  -- loop-less
     (λ c. search gathering-on)  -- loop-again
-    (λ c. search gathered-all))  -- returns-2
+    (λ c. (search gathered-all, search (admitted-there, gathered-all))))  -- returns-2

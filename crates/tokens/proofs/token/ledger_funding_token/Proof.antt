@@ -1,5 +1,6 @@
 -- Entry by entry, and in each condition by condition, the token found so far and those ahead have the one token of all.
 use Prim.Native.Nat.{_-_}
+use mathlib.Core.Path.{refl}
 use native.Mathlib.Omega.{arith}
 use borrow.Author.Needs.{needs}
 use lib.ListN.{length}
@@ -8,6 +9,7 @@ use Rattle.fields.proofs.Told.{told}
 use Rattle.tokens.specs.Tokens.{fundingToken}
 use Rattle.tokens.specs.Agreed.{tokenAt}
 use Rattle.tokens.proofs.Gathering.{Gathering, gathering-differ, gathering-on}
+use Rattle.tokens.proofs.Shown.{funding-there}
 use Rattle.tokens.proofs.Ledger.{Ledger, tokensBehind, ledger-all, ledger-done, ledger-entry, ledger-room, ledger-falls, ledger-next}
 use Rattle.tokens.proofs.token.ledger_funding_token.Statement.{statement}
 use Rattle.tokens.proofs.token.ledger_funding_token.Tie as tie
@@ -40,5 +42,5 @@ ledger-funding-token-spec =
     (λ c κs. search (ledger-room, told))  -- first-funding-requires-2
     (λ c. search (ledger-falls, told))  -- search-less
     (λ c. search (ledger-next, told))  -- search-again
-    (λ c. search (ledger-done, told))  -- returns
-    (λ c. search gathering-differ))  -- returns-2
+    (λ c. (search (ledger-done, told), search (funding-there, ledger-done, told)))  -- returns
+    (λ c. (search gathering-differ, refl)))  -- returns-2
