@@ -13,7 +13,7 @@ use Rattle.fields.specs.Field.Field.{field}
 use Rattle.fields.specs.Field.Fields.{end, next}
 use Rattle.fields.proofs.Parts.{tag-none}
 use Rattle.walking.specs.Walking.{peel}
-use Rattle.walking.proofs.Visits.{parts-shorter}
+use Rattle.fields.proofs.Listing.{parts-shorter}
 use Rattle.equality.specs.Equality.{exprEq}
 use Rattle.equality.proofs.Equality.{nothing-right}
 use Rattle.bounds.specs.Bounds.{goesLeft, wrappingInside, boundedByBacking, leftBounded}
@@ -71,4 +71,4 @@ module _ (t : List ℕ) (here : Bool) (g : ℕ) (f : g ≡ tag (front t)) (v : B
       go false w = cc (tag-none t w, not-false v n)
 
   pub left-shorter : (k : ℕ) (u : List ℕ) → u ≡ drop k (take (sizes (parts (front t))) (drop 3 t)) → length u < length t
-  left-shorter k u d = rw (d, length-drop) (omega (arith, parts-shorter t (take (sizes (parts (front t))) (drop 3 t)) there refl))
+  left-shorter k u d = rw (d, length-drop) (omega (arith, parts-shorter t there (take (sizes (parts (front t))) (drop 3 t)) refl))
