@@ -29,8 +29,18 @@ mod signature {
         every_payout_consumes_its_own_backing(model, entry)
     }
 
+    /// The original's equality of expressions.
+    pub fn equal(a: &Expr, b: &Expr) -> bool {
+        expr_eq(a, b)
+    }
+
+    /// The original's rule of what bounds an amount.
+    pub fn bounds(amount: &Expr, backing: &Expr, wrapping: bool) -> bool {
+        bounded_by_backing(amount, backing, wrapping)
+    }
+
     /// Visits the expressions of an entry's body as the original does.
-    pub(crate) fn visit(entry: &EntryDecl, visitor: &mut impl FnMut(&Expr)) {
+    pub fn visit(entry: &EntryDecl, visitor: &mut impl FnMut(&Expr)) {
         for statement in &entry.body {
             stmt_exprs(statement, visitor);
         }
@@ -40,4 +50,4 @@ mod signature {
 pub use answer::{answer, answers, Answer, Cover, Kind, Reason, Rejection};
 pub use listing::{listing, listing_with_reasons};
 pub use model::Model;
-pub use signature::accepts;
+pub use signature::{accepts, bounds, equal, visit};

@@ -1,0 +1,92 @@
+// SPDX-License-Identifier: Apache-2.0 OR MIT
+//! The proved functions beside the original's, on generated files: questions 1
+//! to 8 beside the decoder, equality and bounds of every pair of expressions of
+//! an entry's body beside the original's functions of the same name.
+
+use model_file::decode;
+use oracle::Model;
+use quanta_ast::Expr;
+use std::process::ExitCode;
+
+/// How many expressions of an entry are paired: a few files have thousands.
+const PAIRED: usize = 100;
+
+/// What was compared.
+#[derive(Default)]
+struct Counts {
+    files: u64,
+    refused: u64,
+    pairs: u64,
+    equal: u64,
+    bounded: u64,
+}
+
+fn main() -> ExitCode {
+    let mut arguments = std::env::args().skip(1).map(|word| word.parse::<u64>());
+    let (Some(Ok(count)), first) = (arguments.next(), arguments.next()) else {
+        eprintln!("usage: compare-library N [FIRST-SEED]");
+        return ExitCode::from(2);
+    };
+    let first = first.map_or(0, |word| word.unwrap_or(0));
+    let mut counts = Counts::default();
+    for seed in first..first + count {
+        if let Err(difference) = compare(&generator::file(seed), &mut counts) {
+            println!("seed {seed}: {difference}");
+            return ExitCode::FAILURE;
+        }
+    }
+    println!(
+        "no difference on {} files: {} refused; {} pairs of expressions, {} equal, {} bounded",
+        counts.files, counts.refused, counts.pairs, counts.equal, counts.bounded
+    );
+    ExitCode::SUCCESS
+}
+
+/// One file, or what differs.
+fn compare(file: &[u8], counts: &mut Counts) -> Result<(), String> {
+    counts.files += 1;
+    let ours = library::check_file(file).map_err(|refusal| (refusal.number, refusal.place));
+    let theirs = decode(file);
+    let expected = theirs.as_ref().map(|_| ()).map_err(|refusal| (refusal.number as u8, refusal.place));
+    if ours != expected {
+        return Err(format!("questions: {ours:?}, expected {expected:?}"));
+    }
+    let Ok(contract) = theirs else {
+        counts.refused += 1;
+        return Ok(());
+    };
+    for entry in &Model::build(&contract).entries {
+        let mut expressions = Vec::new();
+        oracle::visit(entry, &mut |expression| expressions.push(expression.clone()));
+        expressions.truncate(PAIRED);
+        compare_pairs(file, &expressions, counts)?;
+    }
+    Ok(())
+}
+
+/// Every pair of expressions, in both orders, each with itself too.
+fn compare_pairs(file: &[u8], expressions: &[Expr], counts: &mut Counts) -> Result<(), String> {
+    for a in expressions {
+        for b in expressions {
+            counts.pairs += 1;
+            let equal = oracle::equal(a, b);
+            counts.equal += u64::from(equal);
+            if library::expr_eq(part(file, a), part(file, b)) != equal {
+                return Err(format!("equality: {equal} expected of {a:?} and {b:?}"));
+            }
+            for wrapping in [false, true] {
+                let bounded = oracle::bounds(a, b.peel(), wrapping);
+                counts.bounded += u64::from(bounded);
+                if library::bounded_by_backing(part(file, a), part(file, b.peel()), wrapping) != bounded {
+                    return Err(format!("bounds, wrapping {wrapping}: {bounded} expected of {a:?} and {b:?}"));
+                }
+            }
+        }
+    }
+    Ok(())
+}
+
+/// The part of the file that starts with the expression.
+fn part<'a>(file: &'a [u8], expression: &Expr) -> &'a [u8] {
+    &file[expression.span().start..]
+}

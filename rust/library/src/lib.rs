@@ -1,0 +1,54 @@
+// SPDX-License-Identifier: Apache-2.0 OR MIT
+//! The proved functions, called from Rust. Each takes any bytes.
+
+/// The functions of crates/export, as C sees them: a slice is a pointer and
+/// then a length.
+mod c {
+    extern "C" {
+        pub fn zevdrak_check_file(file: *const u8, length: usize, place: *mut usize) -> u8;
+        pub fn zevdrak_expr_eq(a: *const u8, a_length: usize, b: *const u8, b_length: usize) -> bool;
+        pub fn zevdrak_bounded_by_backing(
+            amount: *const u8,
+            amount_length: usize,
+            backing: *const u8,
+            backing_length: usize,
+            wrapping: bool,
+        ) -> bool;
+    }
+}
+
+/// A question that the file fails, and the offset of the field that fails it.
+#[derive(Debug, Clone, Copy, PartialEq, Eq)]
+pub struct Refusal {
+    pub number: u8,
+    pub place: usize,
+}
+
+/// Questions 1 to 8.
+pub fn check_file(file: &[u8]) -> Result<(), Refusal> {
+    let mut place = 0;
+    // The function reads the slice, writes the place, and keeps neither.
+    match unsafe { c::zevdrak_check_file(file.as_ptr(), file.len(), &mut place) } {
+        0 => Ok(()),
+        number => Err(Refusal { number, place }),
+    }
+}
+
+/// Whether the expressions at the fronts of two parts of a file are equal.
+pub fn expr_eq(a: &[u8], b: &[u8]) -> bool {
+    unsafe { c::zevdrak_expr_eq(a.as_ptr(), a.len(), b.as_ptr(), b.len()) }
+}
+
+/// Whether the backing at the front of one part bounds the amount at the front
+/// of another. The backing is compared as it stands: peel it first.
+pub fn bounded_by_backing(amount: &[u8], backing: &[u8], wrapping: bool) -> bool {
+    unsafe {
+        c::zevdrak_bounded_by_backing(
+            amount.as_ptr(),
+            amount.len(),
+            backing.as_ptr(),
+            backing.len(),
+            wrapping,
+        )
+    }
+}
