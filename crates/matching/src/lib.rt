@@ -1,0 +1,1 @@
+// Payout by payout, the cover of each.

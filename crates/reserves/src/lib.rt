@@ -1,0 +1,1 @@
+// The state fields that cover a payout.

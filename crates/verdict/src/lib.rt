@@ -1,0 +1,1 @@
+// The verdict on an entry, and what is written.
