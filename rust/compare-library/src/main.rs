@@ -1,11 +1,13 @@
 // SPDX-License-Identifier: Apache-2.0 OR MIT
 //! The proved functions beside the original's, on generated files: questions 1
-//! to 8 beside the decoder, equality and bounds of every pair of expressions of
-//! an entry's body beside the original's functions of the same name.
+//! to 8 beside the decoder; equality and bounds of every pair of expressions of
+//! an entry's body, the token that each entry admits and the one that funds
+//! each map, beside the original's functions of the same name.
 
 use model_file::decode;
 use oracle::Model;
-use quanta_ast::Expr;
+use quanta_ast::{EntryDecl, Expr};
+use std::collections::BTreeSet;
 use std::process::ExitCode;
 
 /// How many expressions of an entry are paired: a few files have thousands.
@@ -19,6 +21,9 @@ struct Counts {
     pairs: u64,
     equal: u64,
     bounded: u64,
+    admitting: u64,
+    maps: u64,
+    funded: u64,
 }
 
 fn main() -> ExitCode {
@@ -36,8 +41,15 @@ fn main() -> ExitCode {
         }
     }
     println!(
-        "no difference on {} files: {} refused; {} pairs of expressions, {} equal, {} bounded",
-        counts.files, counts.refused, counts.pairs, counts.equal, counts.bounded
+        "no difference on {} files: {} refused; {} pairs of expressions, {} equal, {} bounded; {} entries that admit a token; {} maps, {} with one funding token",
+        counts.files,
+        counts.refused,
+        counts.pairs,
+        counts.equal,
+        counts.bounded,
+        counts.admitting,
+        counts.maps,
+        counts.funded
     );
     ExitCode::SUCCESS
 }
@@ -47,7 +59,10 @@ fn compare(file: &[u8], counts: &mut Counts) -> Result<(), String> {
     counts.files += 1;
     let ours = library::check_file(file).map_err(|refusal| (refusal.number, refusal.place));
     let theirs = decode(file);
-    let expected = theirs.as_ref().map(|_| ()).map_err(|refusal| (refusal.number as u8, refusal.place));
+    let expected = theirs
+        .as_ref()
+        .map(|_| ())
+        .map_err(|refusal| (refusal.number as u8, refusal.place));
     if ours != expected {
         return Err(format!("questions: {ours:?}, expected {expected:?}"));
     }
@@ -55,13 +70,66 @@ fn compare(file: &[u8], counts: &mut Counts) -> Result<(), String> {
         counts.refused += 1;
         return Ok(());
     };
-    for entry in &Model::build(&contract).entries {
+    let model = Model::build(&contract);
+    let mut maps = BTreeSet::new();
+    for entry in &model.entries {
         let mut expressions = Vec::new();
-        oracle::visit(entry, &mut |expression| expressions.push(expression.clone()));
+        oracle::visit(entry, &mut |expression| {
+            expressions.push(expression.clone())
+        });
+        maps.extend(expressions.iter().filter_map(map));
+        compare_admitted(file, entry, counts)?;
         expressions.truncate(PAIRED);
         compare_pairs(file, &expressions, counts)?;
     }
-    Ok(())
+    maps.iter()
+        .try_for_each(|map| compare_funding(file, &model, map, counts))
+}
+
+/// The name on which a member is called.
+fn map(expression: &Expr) -> Option<String> {
+    let Expr::Call { callee, .. } = expression else {
+        return None;
+    };
+    let Expr::Field { base, .. } = callee.as_ref() else {
+        return None;
+    };
+    match base.as_ref() {
+        Expr::Ident(name) => Some(name.text.clone()),
+        _ => None,
+    }
+}
+
+/// The token that an entry admits.
+fn compare_admitted(file: &[u8], entry: &EntryDecl, counts: &mut Counts) -> Result<(), String> {
+    let token = oracle::admitted_token(entry);
+    counts.admitting += u64::from(token.is_some());
+    let expected = token.as_deref().unwrap_or_default();
+    match library::is_admitted_inflow_token(&file[entry.span.start..], expected.as_bytes()) {
+        true => Ok(()),
+        false => Err(format!(
+            "admitted token: {token:?} expected of {}",
+            entry.name.text
+        )),
+    }
+}
+
+/// The one token that funds a map.
+fn compare_funding(
+    file: &[u8],
+    model: &Model,
+    map: &str,
+    counts: &mut Counts,
+) -> Result<(), String> {
+    let tokens = oracle::funding_tokens(model, map);
+    let single = (tokens.len() == 1).then(|| tokens.iter().next()).flatten();
+    counts.maps += 1;
+    counts.funded += u64::from(single.is_some());
+    let expected = single.map_or("", String::as_str);
+    match library::is_ledger_funding_token(file, map.as_bytes(), expected.as_bytes()) {
+        true => Ok(()),
+        false => Err(format!("funding token: {single:?} expected of {map}")),
+    }
 }
 
 /// Every pair of expressions, in both orders, each with itself too.
@@ -77,8 +145,12 @@ fn compare_pairs(file: &[u8], expressions: &[Expr], counts: &mut Counts) -> Resu
             for wrapping in [false, true] {
                 let bounded = oracle::bounds(a, b.peel(), wrapping);
                 counts.bounded += u64::from(bounded);
-                if library::bounded_by_backing(part(file, a), part(file, b.peel()), wrapping) != bounded {
-                    return Err(format!("bounds, wrapping {wrapping}: {bounded} expected of {a:?} and {b:?}"));
+                if library::bounded_by_backing(part(file, a), part(file, b.peel()), wrapping)
+                    != bounded
+                {
+                    return Err(format!(
+                        "bounds, wrapping {wrapping}: {bounded} expected of {a:?} and {b:?}"
+                    ));
                 }
             }
         }

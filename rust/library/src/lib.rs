@@ -6,13 +6,32 @@
 mod c {
     extern "C" {
         pub fn zevdrak_check_file(file: *const u8, length: usize, place: *mut usize) -> u8;
-        pub fn zevdrak_expr_eq(a: *const u8, a_length: usize, b: *const u8, b_length: usize) -> bool;
+        pub fn zevdrak_expr_eq(
+            a: *const u8,
+            a_length: usize,
+            b: *const u8,
+            b_length: usize,
+        ) -> bool;
         pub fn zevdrak_bounded_by_backing(
             amount: *const u8,
             amount_length: usize,
             backing: *const u8,
             backing_length: usize,
             wrapping: bool,
+        ) -> bool;
+        pub fn zevdrak_is_admitted_inflow_token(
+            entry: *const u8,
+            entry_length: usize,
+            token: *const u8,
+            token_length: usize,
+        ) -> bool;
+        pub fn zevdrak_is_ledger_funding_token(
+            file: *const u8,
+            file_length: usize,
+            map: *const u8,
+            map_length: usize,
+            token: *const u8,
+            token_length: usize,
         ) -> bool;
     }
 }
@@ -49,6 +68,33 @@ pub fn bounded_by_backing(amount: &[u8], backing: &[u8], wrapping: bool) -> bool
             backing.as_ptr(),
             backing.len(),
             wrapping,
+        )
+    }
+}
+
+/// Whether the token, no bytes for none, is the one that the entry at the front
+/// of a part of a file admits.
+pub fn is_admitted_inflow_token(entry: &[u8], token: &[u8]) -> bool {
+    unsafe {
+        c::zevdrak_is_admitted_inflow_token(
+            entry.as_ptr(),
+            entry.len(),
+            token.as_ptr(),
+            token.len(),
+        )
+    }
+}
+
+/// Whether it is the one token that funds the map.
+pub fn is_ledger_funding_token(file: &[u8], map: &[u8], token: &[u8]) -> bool {
+    unsafe {
+        c::zevdrak_is_ledger_funding_token(
+            file.as_ptr(),
+            file.len(),
+            map.as_ptr(),
+            map.len(),
+            token.as_ptr(),
+            token.len(),
         )
     }
 }

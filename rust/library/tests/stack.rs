@@ -44,7 +44,10 @@ fn a_call_with_ten_thousand_arguments() {
 fn the_deepest_file() {
     on_a_small_stack(|| {
         let place = 106;
-        assert_eq!(check_file(&entry(&nots(10_900))), Err(Refusal { number: 4, place }));
+        assert_eq!(
+            check_file(&entry(&nots(10_900))),
+            Err(Refusal { number: 4, place })
+        );
         assert_eq!(check_file(&entry(&nots(31))), Ok(()));
         assert!(expr_eq(&nots(31), &nots(31)));
     });

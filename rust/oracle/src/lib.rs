@@ -39,6 +39,21 @@ mod signature {
         bounded_by_backing(amount, backing, wrapping)
     }
 
+    /// The token that an entry admits, by the original.
+    pub fn admitted_token(entry: &EntryDecl) -> Option<String> {
+        admitted_inflow_token(entry)
+    }
+
+    /// The tokens that fund a map, by the original.
+    pub fn funding_tokens(model: &Model, map: &str) -> HashSet<String> {
+        ledger_funding_tokens(model, map)
+    }
+
+    /// The token that a state field holds, by the original.
+    pub fn held_token(model: &Model, field: &str) -> Option<String> {
+        reserve_token(model, field)
+    }
+
     /// Visits the expressions of an entry's body as the original does.
     pub fn visit(entry: &EntryDecl, visitor: &mut impl FnMut(&Expr)) {
         for statement in &entry.body {
@@ -50,4 +65,4 @@ mod signature {
 pub use answer::{answer, answers, Answer, Cover, Kind, Reason, Rejection};
 pub use listing::{listing, listing_with_reasons};
 pub use model::Model;
-pub use signature::{accepts, bounds, equal, visit};
+pub use signature::{accepts, admitted_token, bounds, equal, funding_tokens, held_token, visit};

@@ -18,7 +18,10 @@ fn field(tag: u8, content: &[u8]) -> Vec<u8> {
 /// The n-th leaf: an integer for one in so many, else an identifier.
 fn leaf(number: usize, integers: usize) -> Vec<u8> {
     let integer = integers > 0 && number.is_multiple_of(integers);
-    field(if integer { 0x30 } else { 0x33 }, format!("1{number:05}").as_bytes())
+    field(
+        if integer { 0x30 } else { 0x33 },
+        format!("1{number:05}").as_bytes(),
+    )
 }
 
 /// A call with so many arguments, each a sum of so many leaves.
@@ -41,8 +44,17 @@ fn measure(name: &str, a: &[u8], b: &[u8]) {
     let file = field(0x03, &[field(0x20, b"f"), body].concat());
     let contract = model_file::decode(&file).expect("a model file");
     let mut outer: Vec<Expr> = Vec::new();
-    oracle::visit(Model::build(&contract).entries[0], &mut |e| outer.push(e.clone()));
-    let (x, y) = (outer.remove(0), outer.into_iter().rev().find(|e| e.span().start == file.len() - b.len()).unwrap());
+    oracle::visit(Model::build(&contract).entries[0], &mut |e| {
+        outer.push(e.clone())
+    });
+    let (x, y) = (
+        outer.remove(0),
+        outer
+            .into_iter()
+            .rev()
+            .find(|e| e.span().start == file.len() - b.len())
+            .unwrap(),
+    );
     assert_eq!(library::expr_eq(a, b), oracle::equal(&x, &y));
     let nanoseconds = |work: &dyn Fn() -> bool| {
         let start = Instant::now();
@@ -53,7 +65,11 @@ fn measure(name: &str, a: &[u8], b: &[u8]) {
     };
     let here = nanoseconds(&|| library::expr_eq(black_box(a), black_box(b)));
     let there = nanoseconds(&|| oracle::equal(black_box(&x), black_box(&y)));
-    println!("{name:32} {:6} bytes  {here:6.2}  {there:6.2}  {:5.2}", a.len(), here / there);
+    println!(
+        "{name:32} {:6} bytes  {here:6.2}  {there:6.2}  {:5.2}",
+        a.len(),
+        here / there
+    );
 }
 
 fn main() {
@@ -68,7 +84,11 @@ fn main() {
     ] {
         let equal = amount(arguments, leaves, integers, b"x");
         measure(name, &equal, &equal.clone());
-        measure("  the last leaf different", &equal, &amount(arguments, leaves, integers, b"y"));
+        measure(
+            "  the last leaf different",
+            &equal,
+            &amount(arguments, leaves, integers, b"y"),
+        );
     }
     let text = field(0x32, &[b'n'; 4000]);
     measure("one string", &text, &text.clone());
