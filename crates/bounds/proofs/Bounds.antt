@@ -17,6 +17,7 @@ use Rattle.fields.proofs.Listing.{parts-shorter}
 use Rattle.equality.specs.Equality.{exprEq}
 use Rattle.equality.proofs.Equality.{nothing-right}
 use Rattle.bounds.specs.Bounds.{goesLeft, wrappingInside, boundedByBacking, leftBounded}
+use Rattle.bounds.specs.Backing.{backingField}
 
 -- a missing amount is bounded by no backing
 pub nothing-bounded : (backing : Field) (wrapping : Bool) → boundedByBacking nothing backing wrapping ≡ false
@@ -39,25 +40,25 @@ unfolding boundedByBacking
 bounded-step (field t x ps) backing wrapping = rw (← left-bounded ps backing (wrappingInside t wrapping))
 
 -- the part that the rule has come to, with wrapping on or off there, decides what was asked
-abbrev pub Bounding : (amount backing : List ℕ) → Bool → List ℕ → Bool → Type 0
-Bounding amount backing wrapping t here =
-    boundedByBacking (front t) (front backing) here ≡ boundedByBacking (front amount) (front backing) wrapping
+abbrev pub Bounding : (amount backing : List ℕ) → Bool → Bool → List ℕ → Bool → Type 0
+Bounding amount backing named wrapping t here =
+    boundedByBacking (front t) (backingField named backing) here ≡ boundedByBacking (front amount) (backingField named backing) wrapping
 
-module _ (amount backing : List ℕ) (wrapping : Bool) (t : List ℕ) (here : Bool) (i : Bounding amount backing wrapping t here)
-    (x : List ℕ) (p : front x ≡ peel (front t)) (q : Bool) (e : q ≡ exprEq (front backing) (front x)) where
-  step : q || goesLeft (tag (front t)) here && boundedByBacking (part 0 (front t)) (front backing) (wrappingInside (tag (front t)) here)
-      ≡ boundedByBacking (front amount) (front backing) wrapping
-  step = rw (e, p, ← bounded-step (front t) (front backing) here) i
+module _ (amount backing : List ℕ) (named wrapping : Bool) (t : List ℕ) (here : Bool) (i : Bounding amount backing named wrapping t here)
+    (x : List ℕ) (p : front x ≡ peel (front t)) (q : Bool) (e : q ≡ exprEq (backingField named backing) (front x)) where
+  step : q || goesLeft (tag (front t)) here && boundedByBacking (part 0 (front t)) (backingField named backing) (wrappingInside (tag (front t)) here)
+      ≡ boundedByBacking (front amount) (backingField named backing) wrapping
+  step = rw (e, p, ← bounded-step (front t) (backingField named backing) here) i
 
-  pub bounding-equal : q ≡ true → true ≡ boundedByBacking (front amount) (front backing) wrapping
+  pub bounding-equal : q ≡ true → true ≡ boundedByBacking (front amount) (backingField named backing) wrapping
   bounding-equal h = rw h at step
 
   module _ (h : q ≡ false) (g : ℕ) (f : g ≡ tag (front t)) (v : Bool) (o : v ≡ goesLeft g here) where
-    pub bounding-stop : not v ≡ true → false ≡ boundedByBacking (front amount) (front backing) wrapping
+    pub bounding-stop : not v ≡ true → false ≡ boundedByBacking (front amount) (backingField named backing) wrapping
     bounding-stop n = rw (h, ← f, ← o, not-true v n) at step
 
     pub bounding-left : not v ≡ false → (w : Bool) → w ≡ wrappingInside g here → (u : List ℕ) → front u ≡ part 0 (front t) →
-        Bounding amount backing wrapping u w
+        Bounding amount backing named wrapping u w
     bounding-left n w k u d = rw (d, k) (rw (h, ← f, ← o, not-false v n) at step)
 
 -- the rule goes only into a field that is there, since a missing one has the tag 0; what it goes on with is shorter

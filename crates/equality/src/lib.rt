@@ -5,9 +5,13 @@ use fields::front::after_front;
 use fields::front::front_content;
 use fields::front::front_tag;
 use fields::front::is_whole;
+use fields::front::parts_of;
+use fields::front::tag_of;
+use fields::front::text_of;
 use fields::tag::CALLER;
 use fields::tag::IDENTIFIER;
 use fields::tag::INTEGER;
+use fields::tag::MEMBER;
 use fields::tag::NAME;
 use fields::tag::NOW;
 use fields::tag::STRING;
@@ -17,6 +21,7 @@ ghost use lib.ListN.{drop};
 ghost use Rattle.fields.specs.Lists.{all, sameBytes};
 ghost use Rattle.fields.specs.Field.{fields, front};
 ghost use Rattle.equality.specs.Equality.{isUnderscore, strip, sameText, exprEq, partsEq, sameTag};
+ghost use Rattle.equality.specs.Amount.{amountOf};
 
 // Whether s is underscores only from i on.
 fn only_underscores(s: &[u8], i: usize) -> bool
@@ -115,4 +120,21 @@ fn parts_eq(a: &[u8], b: &[u8]) -> bool
         y = v;
     }
     !is_whole(y)
+}
+
+// Whether the expression at the front of s equals the `p.amount` of the parameter of that name. No such expression need
+// stand in the file, so it is known by the name only: a member whose parts are exactly that identifier and `amount`.
+pub fn is_amount_of(name: &[u8], s: &[u8]) -> bool
+    ensures { λ r. ⌜ r ≡ exprEq (amountOf (now (name .entry))) (front (now (s .entry))) ⌝ }
+{
+    if tag_of(s) != MEMBER {
+        return false;
+    }
+    let base = parts_of(s);
+    let member = after_front(base);
+    (tag_of(base) == IDENTIFIER)
+        & same_bytes(name, text_of(base))
+        & (tag_of(member) == NAME)
+        & same_bytes(b"amount", text_of(member))
+        & !is_whole(after_front(member))
 }

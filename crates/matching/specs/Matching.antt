@@ -7,8 +7,9 @@ use lib.Dec.{eqb}
 use Rattle.fields.specs.Lists.{any, find, removeFirst, position, numbered, sameBytes, bytes}
 use Rattle.fields.specs.Field.{Field, Fields, part}
 use Rattle.questions.specs.Model.{stateNames}
-use Rattle.walking.specs.Walking.{peel, present, ident, method, receiver, amountOf, assetParams, debits}
+use Rattle.walking.specs.Walking.{peel, present, ident, method, receiver, assetParams, debits}
 use Rattle.equality.specs.Equality.{exprEq}
+use Rattle.equality.specs.Amount.{amountOf}
 use Rattle.bounds.specs.Bounds.{boundedByBacking}
 use Rattle.tokens.specs.Tokens.{admittedInflowToken, fundingToken, differ}
 use Rattle.reserves.specs.Reserves.{reserveBoundingPayout}

@@ -12,6 +12,7 @@ use Rattle.questions.specs.Model.{entries, params}
 use Rattle.walking.specs.Walking.{peel, peelFirst, peelPlace, peelFirstPlace, walk, walkParts, stmtExprs, bodyExprs, exprs, ident, method, receiver, assetAmountBacker, isAssetParameter, assetParams}
 use Rattle.conditions.specs.Conditions.{splitAnd, splitEach, splitFirst, negated, negatedEach, negatedFirst, conditionsOf, requiredConditions, opposite, operator}
 use Rattle.tokens.specs.Tokens.{single, besideInAsset, tokenNamed, tokensNamed, admittedInflowToken, isInflow, isCredit, isFunding, funds, ledgerFundingTokens, fundingToken}
+use Rattle.tokens.specs.Fundings.{tokenOf, joined, joinedAll, conditionNumber, tokensNumber, isFundingCall, numbersOf, fundingsOf, fundings, foundWith, foundThrough}
 use Rattle.tokens.specs.Place.{besidePlace, foundIn, foundOf, firstPlace, admittedPlace, fundingPlace}
 
 abbrev inAsset : List ℕ
@@ -114,3 +115,46 @@ funding-none = refl
 funding-place : fundingPlace 100 (fields (entry x ++ (funding "T" (credits "credit" (amount "a")) ++ funding "T" (credits "set" (amount "a"))))) (bytes "m") ≡ 47
 unfolding any filter sameBytes known fields fieldsTo nth composite size sizes placed placedFrom placeOf row fieldsFrom flatMap isExpression isStatement isWrapper entries params peel peelFirst peelPlace peelFirstPlace walk walkParts stmtExprs bodyExprs exprs ident method receiver assetAmountBacker isAssetParameter assetParams splitAnd splitEach splitFirst negated negatedEach negatedFirst conditionsOf requiredConditions opposite operator besideInAsset tokenNamed isInflow isCredit isFunding funds besidePlace foundIn foundOf firstPlace fundingPlace
 funding-place = refl
+
+-- the number of what an entry names, by its conditions: none, one, the same twice (the place of the first comparison, and 2), two
+numbered : List (List ℕ) → List ℕ
+unfolding all filter sameBytes known fields fieldsTo nth composite size sizes placed placedFrom flatMap isWrapper peel peelFirst ident splitAnd splitEach splitFirst negated negatedEach negatedFirst conditionsOf requiredConditions opposite operator besideInAsset tokenNamed tokenOf joined joinedAll conditionNumber tokensNumber
+numbered cs = map (λ c. tokensNumber (entry c) (record { place = 0; this = front (entry c) })) cs
+
+numbering : numbered
+    ([] ∷ guard x ∷ limits (holds "T") ∷ (guard x ++ denies (write Ne (inAsset ++ identifier "T"))) ∷ (limits (holds "T") ++ guard (holds "T"))
+    ∷ (limits (holds "T") ++ guard (holds "U")) ∷ (limits (holds "T") ++ (guard (holds "U") ++ guard (holds "T"))) ∷ [])
+    ≡ 0 ∷ 0 ∷ 12 ∷ 19 ∷ 12 ∷ 1 ∷ 1 ∷ []
+unfolding numbered
+numbering = refl
+
+-- the calls that fund some map, each with its place and what its entry names
+listed : List (List ℕ) → List (List ℕ)
+unfolding any all filter sameBytes known fields fieldsTo nth composite size sizes placed placedFrom row fieldsFrom flatMap isExpression isStatement isWrapper entries params peel peelFirst walk walkParts stmtExprs bodyExprs ident method receiver assetAmountBacker isAssetParameter assetParams splitAnd splitEach splitFirst negated negatedEach negatedFirst conditionsOf requiredConditions opposite operator besideInAsset tokenNamed isInflow isCredit tokenOf joined joinedAll conditionNumber tokensNumber isFundingCall numbersOf fundingsOf fundings
+listed files = map fundings files
+
+abbrev creditsOther : List ℕ
+creditsOther = write ExpressionStatement (call "w" "credit" (x ++ amount "a"))
+
+-- an entry that names one, none, two; two maps of one entry; two entries; a plain parameter, a debit, a first argument, no entry
+listing : listed
+    (funding "T" (credits "credit" (amount "a")) ∷ entry (asset "a" ++ credits "set" (amount "a")) ∷ funding "T" (guard (holds "U") ++ credits "credit" (amount "a"))
+    ∷ funding "T" (credits "credit" (amount "a") ++ creditsOther) ∷ (funding "T" (credits "credit" (amount "a")) ++ funding "U" creditsOther)
+    ∷ funding "T" (credits "credit" (amount "b")) ∷ funding "T" (credits "debit" (amount "a")) ∷ funding "T" (write ExpressionStatement (call "m" "credit" (amount "a"))) ∷ [] ∷ [])
+    ≡ (40 ∷ 29 ∷ []) ∷ (27 ∷ 0 ∷ []) ∷ (53 ∷ 1 ∷ []) ∷ (40 ∷ 29 ∷ 82 ∷ 29 ∷ []) ∷ (40 ∷ 29 ∷ 119 ∷ 108 ∷ []) ∷ [] ∷ [] ∷ [] ∷ [] ∷ []
+unfolding listed
+listing = refl
+
+-- the maps m, w and n of a file, by going through its calls
+gone : List ℕ → List (List ℕ)
+unfolding listed foundWith foundThrough
+gone file = map (λ m. tokenOf file (foundThrough file m 0 (fundings file))) (bytes "m" ∷ bytes "w" ∷ bytes "n" ∷ [])
+
+-- two maps of two entries, of one; two entries that name the same, and two that do not; an entry that names none beside one that names one
+going : map gone
+    ((funding "T" (credits "credit" (amount "a")) ++ funding "U" creditsOther) ∷ funding "T" (credits "credit" (amount "a") ++ creditsOther)
+    ∷ (funding "T" (credits "credit" (amount "a")) ++ funding "T" (credits "set" (amount "a"))) ∷ (funding "T" (credits "credit" (amount "a")) ++ funding "U" (credits "set" (amount "a")))
+    ∷ (entry (asset "a" ++ credits "set" (amount "a")) ++ funding "T" (credits "credit" (amount "a"))) ∷ [])
+    ≡ (bytes "T" ∷ bytes "U" ∷ [] ∷ []) ∷ (bytes "T" ∷ bytes "T" ∷ [] ∷ []) ∷ (bytes "T" ∷ [] ∷ [] ∷ []) ∷ ([] ∷ [] ∷ [] ∷ []) ∷ (bytes "T" ∷ [] ∷ [] ∷ []) ∷ []
+unfolding gone
+going = refl

@@ -32,13 +32,13 @@ funding-call m entry f h = go (isCall f) refl
     go false e = cc
 
 -- any of the mapped
-any-mapped : (p : Field → Bool) (g : ℕ → Field) (l : List ℕ) → any (λ k. p (g k)) l ≡ any p (map g l)
+pub any-mapped : (p : Field → Bool) (g : ℕ → Field) (l : List ℕ) → any (λ k. p (g k)) l ≡ any p (map g l)
 unfolding any
 any-mapped p g [] = refl
 any-mapped p g (k ∷ l) = rw (any-mapped p g l)
 
 -- each call takes three bytes at least
-few-calls : (s : List ℕ) → length s ≤ 32768 → length (placesOf Call (bodyExprs (placedAt s 0))) ≤ 10923
+pub few-calls : (s : List ℕ) → length s ≤ 32768 → length (placesOf Call (bodyExprs (placedAt s 0))) ≤ 10923
 unfolding size sizes
 few-calls s h = go (whole s) refl
   where

@@ -2,6 +2,11 @@ pub mod Agreeing
 pub mod Funded
 pub mod Gathering
 pub mod Admitted
-pub mod Ledger
+pub mod Funders
 pub mod Examples
 pub mod Shown
+pub mod Joining
+pub mod Numbers
+pub mod Through
+pub mod Filling
+pub mod Entering

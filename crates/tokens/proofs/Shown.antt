@@ -165,7 +165,7 @@ admitted-shown s =
     rw (← found-tokens (length s) p) (single-shown s (foundOf (length s) p) (entry-shown s p refl))
 
 -- the entries of a file stand in it
-entries-stand : (file : List ℕ) → Every (Stands file) (entries (fields file))
+pub entries-stand : (file : List ℕ) → Every (Stands file) (entries (fields file))
 unfolding entries placedFrom
 entries-stand file =
     every-filter (Stands file) (λ p. between Entry Entry (tag (p .this))) (placed 0 (fields file))
@@ -177,7 +177,7 @@ found-each last [] = refl
 found-each last (p ∷ ps) =
     map-append (λ f. f .token) (foundOf last p) (flatMap (foundOf last) ps) ∙ rw (found-tokens last p, found-each last ps)
 
-filter-places : (f : Field → Bool) (ps : List Placed) → withoutPlaces (filter (λ p. f (p .this)) ps) ≡ filter f (withoutPlaces ps)
+pub filter-places : (f : Field → Bool) (ps : List Placed) → withoutPlaces (filter (λ p. f (p .this)) ps) ≡ filter f (withoutPlaces ps)
 unfolding filter
 filter-places f [] = refl
 filter-places f (p ∷ ps) = go (f (p .this)) (filter-places f ps)

@@ -1,3 +1,4 @@
 pub mod Tokens
 pub mod Agreed
 pub mod Place
+pub mod Fundings

@@ -4,7 +4,7 @@ use mathlib.Core.Bool.{Bool, cond, _&&_}
 use mathlib.Core.List.{List, [], _∷_, _++_, map, flatMap}
 use lib.Dec.{eqb, leb}
 use Rattle.fields.specs.Lists.{filter, bytes, sameBytes}
-use Rattle.fields.specs.Tag.{Guard, Name, Identifier, Caller, Member, Call, isStatement, isExpression, isWrapper}
+use Rattle.fields.specs.Tag.{Guard, Identifier, Caller, Member, Call, isStatement, isExpression, isWrapper}
 use Rattle.fields.specs.Field.{Field, Fields, Placed, tag, text, parts, part, nothing, size, placedParts, fieldsFrom}
 use Rattle.fields.specs.Field.Field.{field}
 use Rattle.fields.specs.Field.Fields.{end, next}
@@ -93,10 +93,6 @@ isPayout f = eqb (tag f) Call && sameBytes (ident (part 0 f)) (bytes "send_asset
 -- the p of `p.amount`, p an identifier, unpeeled; none of anything else
 unfoldable pub assetAmountBacker : Field → List ℕ
 assetAmountBacker f = cond (eqb (tag f) Member && sameBytes (text (part 1 f)) (bytes "amount")) (ident (part 0 f)) []
-
--- `p.amount`
-abbrev pub amountOf : List ℕ → Field
-amountOf p = field Member [] (next (field Identifier p (end [])) (next (field Name (bytes "amount") (end [])) (end [])))
 
 -- an asset parameter has the type name Q_Asset
 unfoldable pub isAssetParameter : Field → Bool

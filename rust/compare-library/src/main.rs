@@ -57,7 +57,7 @@ fn main() -> ExitCode {
 /// One file, or what differs.
 fn compare(file: &[u8], counts: &mut Counts) -> Result<(), String> {
     counts.files += 1;
-    let ours = library::check_file(file).map_err(|refusal| (refusal.number, refusal.place));
+    let ours = zevdrak::check_file(file).map_err(|refusal| (refusal.number, refusal.place));
     let theirs = decode(file);
     let expected = theirs
         .as_ref()
@@ -105,7 +105,7 @@ fn compare_admitted(file: &[u8], entry: &EntryDecl, counts: &mut Counts) -> Resu
     let token = oracle::admitted_token(entry);
     counts.admitting += u64::from(token.is_some());
     let expected = token.as_deref().unwrap_or_default();
-    match library::is_admitted_inflow_token(&file[entry.span.start..], expected.as_bytes()) {
+    match zevdrak::is_admitted_inflow_token(&file[entry.span.start..], expected.as_bytes()) {
         true => Ok(()),
         false => Err(format!(
             "admitted token: {token:?} expected of {}",
@@ -126,7 +126,7 @@ fn compare_funding(
     counts.maps += 1;
     counts.funded += u64::from(single.is_some());
     let expected = single.map_or("", String::as_str);
-    match library::is_ledger_funding_token(file, map.as_bytes(), expected.as_bytes()) {
+    match zevdrak::is_ledger_funding_token(file, map.as_bytes(), expected.as_bytes()) {
         true => Ok(()),
         false => Err(format!("funding token: {single:?} expected of {map}")),
     }
@@ -139,13 +139,13 @@ fn compare_pairs(file: &[u8], expressions: &[Expr], counts: &mut Counts) -> Resu
             counts.pairs += 1;
             let equal = oracle::equal(a, b);
             counts.equal += u64::from(equal);
-            if library::expr_eq(part(file, a), part(file, b)) != equal {
+            if zevdrak::expr_eq(part(file, a), part(file, b)) != equal {
                 return Err(format!("equality: {equal} expected of {a:?} and {b:?}"));
             }
             for wrapping in [false, true] {
                 let bounded = oracle::bounds(a, b.peel(), wrapping);
                 counts.bounded += u64::from(bounded);
-                if library::bounded_by_backing(part(file, a), part(file, b.peel()), wrapping)
+                if zevdrak::bounded_by_backing(part(file, a), part(file, b.peel()), wrapping)
                     != bounded
                 {
                     return Err(format!(

@@ -10,7 +10,7 @@ use Rattle.tokens.specs.Tokens.{fundingToken}
 use Rattle.tokens.specs.Agreed.{tokenAt}
 use Rattle.tokens.proofs.Gathering.{Gathering, gathering-differ, gathering-on}
 use Rattle.tokens.proofs.Shown.{funding-there}
-use Rattle.tokens.proofs.Ledger.{Ledger, tokensBehind, ledger-all, ledger-done, ledger-entry, ledger-room, ledger-falls, ledger-next}
+use Rattle.tokens.proofs.Funders.{Ledger, tokensBehind, ledger-all, ledger-done, ledger-entry, ledger-room, ledger-falls, ledger-next}
 use Rattle.tokens.proofs.token.ledger_funding_token.Statement.{statement}
 use Rattle.tokens.proofs.token.ledger_funding_token.Tie as tie
 

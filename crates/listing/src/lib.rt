@@ -1,0 +1,2 @@
+// The listing of a file.
+pub mod output;

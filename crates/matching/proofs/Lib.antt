@@ -1,0 +1,16 @@
+pub mod Reading
+pub mod Chosen
+pub mod Backed
+pub mod Found
+pub mod Marking
+pub mod Covering
+pub mod Steps
+pub mod Answering
+pub mod Kept
+pub mod Whole
+pub mod Examples
+pub mod Truths
+pub mod Finding
+pub mod Counting
+pub mod Alike
+pub mod Ways

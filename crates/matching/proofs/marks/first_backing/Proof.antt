@@ -1,0 +1,25 @@
+-- No backing that was passed over passes the test, so those that are left decide.
+use Prim.Native.Nat.{_-_}
+use native.Mathlib.Omega.{arith}
+use borrow.Author.Needs.{needs}
+use Rattle.fields.specs.Field.{front}
+use Rattle.matching.specs.Matching.{payoutAmount}
+use Rattle.matching.specs.Tables.{passes}
+use Rattle.matching.proofs.Marking.{Searching, searching-all, searching-none, searching-found, searching-on, passes-amount}
+use Rattle.matching.proofs.marks.first_backing.Statement.{statement}
+use Rattle.matching.proofs.marks.first_backing.Tie as tie
+
+pub first-backing-spec : {M : Type 1} → statement M
+first-backing-spec =
+    tie.close
+    (tie.spec
+    (λ file place debits count total marks wanted s bounding amount i₀ i. Searching (passes file place debits count marks wanted (payoutAmount (front s)) bounding) total i)  -- Inv-loop
+    (λ file place debits count total marks wanted s bounding amount i₀ i. total - i)  -- μ-loop
+    (λ c κs. search needs)  -- payout-amount-requires
+    (λ c. search searching-all)  -- loop-holds
+    (λ c κs. search needs)  -- backing-passes-requires
+    (λ c. search (searching-found, passes-amount))  -- returns
+    (λ c. omega arith)  -- add-i
+    (λ c. omega arith)  -- loop-less
+    (λ c. search (searching-on, passes-amount))  -- loop-again
+    (λ c. search searching-none))  -- returns-2

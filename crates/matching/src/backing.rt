@@ -1,0 +1,141 @@
+// SPDX-License-Identifier: Apache-2.0 OR MIT
+// A payout's token and amount, and the backings of an entry by number: backing i is debit i, whose call stands at the i-th
+// place of a table, and behind the debits an asset parameter of the entry at a place of the file.
+use bounds::backing_eq;
+use bounds::bounded_by;
+use fields::bytes::same_bytes;
+use fields::bytes::skip;
+use fields::front::part_of;
+use fields::table::number_at;
+use tokens::set::tokens_differ;
+use tokens::token::admitted_inflow_token;
+use tokens::token::ledger_funding_token;
+use walking::parameters::asset_parameter;
+use walking::peel::peel;
+use walking::shape::ident;
+use walking::shape::method;
+use walking::shape::receiver;
+ghost use mathlib.Core.Path.{_≡_};
+ghost use mathlib.Core.Bool.{not, false};
+ghost use Prim.Native.Nat.{_≤_};
+ghost use lib.Dec.{ltb};
+ghost use lib.ListN.{length};
+ghost use Rattle.fields.specs.Field.{front, part};
+ghost use Rattle.walking.specs.Walking.{peel};
+ghost use Rattle.equality.specs.Equality.{exprEq};
+ghost use Rattle.bounds.specs.Bounds.{boundedByBacking};
+ghost use Rattle.bounds.specs.Backing.{backingField};
+ghost use Rattle.tokens.specs.Tokens.{differ};
+ghost use Rattle.matching.specs.Matching.{payoutToken, payoutAmount};
+ghost use Rattle.matching.specs.Tables.{amountAt, tokenAt};
+
+// The token of the payout at the front of s: its first argument, peeled, if an identifier.
+pub fn payout_token(s: &[u8]) -> &[u8]
+    ensures { λ r. ⌜ now r ≡ payoutToken (front (now (s .entry))) ⌝ }
+{
+    ident(peel(part_of(s, 1)))
+}
+
+// Its amount, unpeeled: its third argument, or the first one of the call of a member `split` that this is.
+pub fn payout_amount(s: &[u8]) -> &[u8]
+    ensures reads { λ r. ⌜ front (now r) ≡ payoutAmount (front (now (s .entry))) ⌝ }
+    ensures within { λ r. ⌜ length (now r) ≤ length (now (s .entry)) ⌝ }
+{
+    let value = part_of(s, 3);
+    let call = peel(value);
+    if same_bytes(method(call), b"split") {
+        return part_of(call, 1);
+    }
+    value
+}
+
+// The amount, peeled, of the debit at the front of s.
+fn debit_amount(s: &[u8]) -> &[u8]
+    ensures { λ r. ⌜ front (now r) ≡ peel (part 2 (front (now (s .entry)))) ⌝ }
+{
+    peel(part_of(s, 2))
+}
+
+// The part of the file by which the amount of backing number i is known: the expression of a debit, the name of a parameter.
+fn backing_part<'a>(
+    file: &'a [u8],
+    place: usize,
+    debits: &[u16],
+    count: usize,
+    i: usize,
+) -> &'a [u8]
+    ensures { λ r. ⌜ backingField (not (ltb i count)) (now r) ≡ amountAt (now (file .entry)) place (now (debits .entry)) count i ⌝ }
+{
+    if i < count {
+        return debit_amount(skip(file, number_at(debits, i)));
+    }
+    asset_parameter(skip(file, place), i - count)
+}
+
+// Whether the amount of backing number i equals the expression at the front of s. Every comparison of amounts is this one.
+pub fn backing_equals(
+    file: &[u8],
+    place: usize,
+    debits: &[u16],
+    count: usize,
+    i: usize,
+    s: &[u8],
+) -> bool
+    ensures { λ r. ⌜ r ≡ exprEq (amountAt (now (file .entry)) place (now (debits .entry)) count i) (front (now (s .entry))) ⌝ }
+{
+    backing_eq(backing_part(file, place, debits, count, i), !(i < count), s)
+}
+
+// Whether backing number i bounds the expression at the front of s.
+pub fn backing_bounds(
+    file: &[u8],
+    place: usize,
+    debits: &[u16],
+    count: usize,
+    i: usize,
+    s: &[u8],
+) -> bool
+    ensures { λ r. ⌜ r ≡ boundedByBacking (front (now (s .entry))) (amountAt (now (file .entry)) place (now (debits .entry)) count i) false ⌝ }
+{
+    bounded_by(
+        s,
+        backing_part(file, place, debits, count, i),
+        !(i < count),
+        false,
+    )
+}
+
+// The token of backing number i. It takes long to work out, so that it is asked only of a backing that matches.
+pub fn backing_token<'a>(
+    file: &'a [u8],
+    place: usize,
+    debits: &[u16],
+    count: usize,
+    i: usize,
+) -> &'a [u8]
+    requires { ⌜ length (now file) ≤ 32768 ⌝ }
+    ensures { λ r. ⌜ now r ≡ tokenAt (now (file .entry)) place (now (debits .entry)) count i ⌝ }
+{
+    if i < count {
+        return ledger_funding_token(file, receiver(skip(file, number_at(debits, i))));
+    }
+    admitted_inflow_token(skip(file, place))
+}
+
+// Whether its token and that of the payout at the front of s are both known and differ.
+pub fn tokens_conflict(
+    file: &[u8],
+    place: usize,
+    debits: &[u16],
+    count: usize,
+    i: usize,
+    s: &[u8],
+) -> bool
+    requires { ⌜ length (now file) ≤ 32768 ⌝ }
+    ensures { λ r. ⌜ r ≡ differ (tokenAt (now (file .entry)) place (now (debits .entry)) count i) (payoutToken (front (now (s .entry)))) ⌝ }
+{
+    tokens_differ(
+        backing_token(file, place, debits, count, i),
+        payout_token(s),
+    )
+}

@@ -1,0 +1,142 @@
+-- The calls of an entry's body are all in the table, and a test that only a call passes needs no others.
+use Prim.Native.Nat.{ℕ, _+_, _≤_, _<_}
+use mathlib.Core.Path.{_≡_, refl, _∙_}
+use mathlib.Core.Bool.{Bool, true, false, cond, not}
+use mathlib.Core.List.{List, [], _∷_, map}
+use native.Mathlib.Omega.{arith}
+use borrow.Author.Tests.{not-true, not-false}
+use lib.ListN.{length, getD, take, drop, drop-of-length-le}
+use lib.Seq.{length-take-le, getD-take}
+use Rattle.fields.specs.Lists.{any, filter, sameBytes}
+use Rattle.fields.specs.Tag.{Call}
+use Rattle.fields.specs.Table.{Listed}
+use Rattle.fields.specs.Field.{Field, front, part}
+use Rattle.fields.proofs.Bools.{and-left}
+use Rattle.fields.proofs.Lists.{any-first}
+use Rattle.fields.proofs.Reading.{front-none}
+use Rattle.fields.proofs.Slices.{drop-step}
+use Rattle.fields.proofs.Tables.{listed-front}
+use Rattle.fields.proofs.Seeking.{Seeking, seeking-found, seeking-on}
+use Rattle.walking.specs.Walking.{peel, method, isDebit, exprs, bodyExprs}
+use Rattle.walking.specs.Table.{placedAt, placesOf}
+use Rattle.walking.proofs.Calls.{isCall, debit-call}
+use Rattle.walking.proofs.Callers.{body-read}
+use Rattle.equality.specs.Equality.{exprEq}
+use Rattle.tokens.specs.Tokens.{isCredit}
+use Rattle.tokens.proofs.Funded.{few-calls, any-mapped}
+use Rattle.reserves.specs.Reserves.{credited}
+use Rattle.reserves.specs.Raising.{CallsOf, withAmount, firstOf, debitOf}
+
+-- what list_body writes
+pub calls-listed : (s : List ℕ) → length s ≤ 32768 → (table calls : List ℕ) (count : ℕ) →
+    Listed (placesOf Call (bodyExprs (placedAt s 0))) table 0 calls count → length table ≡ 10923 → length calls ≡ length table → CallsOf s calls count
+calls-listed s h table calls count l k w =
+    let enough : count ≤ length table = omega (arith, l .count, few-calls s h) in
+    record {
+      room = omega arith;
+      read =
+          rw (listed-front (placesOf Call (bodyExprs (placedAt s 0))) table calls count l enough)
+          (body-read s 0 Call (omega arith));
+    }
+
+-- only calls are of the two kinds
+credit-call : (f : Field) → isCredit f ≡ true → isCall f ≡ true
+unfolding isCredit method any sameBytes
+credit-call f h = go (isCall f) refl
+  where
+    go : (k : Bool) → isCall f ≡ k → isCall f ≡ true
+    go true e = e
+    go false e = cc
+
+pub amount-call : (kind : Field → Bool) → ((f : Field) → kind f ≡ true → isCall f ≡ true) → (v f : Field) → withAmount kind v f ≡ true → isCall f ≡ true
+unfolding withAmount
+amount-call kind implies v f h = implies f (and-left (kind f) (exprEq (peel (part 2 f)) v) h)
+
+-- what the code tests: another call fails, and of one of the kind the amount decides
+module _ (kind : Field → Bool) (v f : Field) (a : Bool) (e : a ≡ kind f) where
+  pub other-call : not a ≡ true → false ≡ withAmount kind v f
+  unfolding withAmount
+  other-call h = rw (← e, not-true a h)
+
+  pub by-amount : not a ≡ false → (p x : List ℕ) → front p ≡ part 2 f → front x ≡ peel (front p) → (b : Bool) → b ≡ exprEq (front x) v → b ≡ withAmount kind v f
+  unfolding withAmount
+  by-amount h p x g i b k = k ∙ rw (← e, not-false a h, i, g)
+
+-- Whether some call passes
+
+-- whether the call at a place of s does
+unfoldable pub callAt : (Field → Bool) → List ℕ → ℕ → Bool
+callAt p s n = p (front (drop n s))
+
+module _ (p : Field → Bool) (implies : (f : Field) → p f ≡ true → isCall f ≡ true) (s calls : List ℕ) (count : ℕ) (t : CallsOf s calls count) where
+  called-any : Seeking (callAt p s) calls count 0 (any p (exprs (front s)))
+  unfolding callAt
+  called-any = record {
+    within = omega arith;
+    room = t .room;
+    left = rw (any-mapped p (λ n. front (drop n s)) (take count calls), t .read) (any-first p isCall implies (exprs (front s)));
+  }
+
+pub credited-any : (s calls : List ℕ) (count : ℕ) → CallsOf s calls count → (v : Field) → Seeking (callAt (withAmount isCredit v) s) calls count 0 (credited (front s) v)
+unfolding credited withAmount
+credited-any s calls count t v = called-any (withAmount isCredit v) (amount-call isCredit credit-call v) s calls count t
+
+module _ (p : Field → Bool) (s calls : List ℕ) (count i : ℕ) (r : Bool) (v : Seeking (callAt p s) calls count i r) (h : i < count)
+    (n : ℕ) (k : n ≡ getD calls i 0) (x : List ℕ) (e : x ≡ drop n s) (b : Bool) (f : b ≡ p (front x)) where
+  here : callAt p s (getD calls i 0) ≡ b
+  unfolding callAt
+  here = rw (f, e, k)
+
+  pub called-found : b ≡ true → true ≡ r
+  called-found g = seeking-found (callAt p s) calls count i r v h (here ∙ g)
+
+  pub called-on : b ≡ false → Seeking (callAt p s) calls count (i + 1) r
+  called-on g = seeking-on (callAt p s) calls count i r v h (here ∙ g)
+
+-- The first call that passes
+
+first-first : (p q : Field → Bool) → ((f : Field) → p f ≡ true → q f ≡ true) → (l : List Field) → firstOf p (filter q l) ≡ firstOf p l
+unfolding firstOf filter
+first-first p q implies [] = refl
+first-first p q implies (x ∷ xs) = go (p x) (q x) refl refl (first-first p q implies xs)
+  where
+    go : (j k : Bool) → p x ≡ j → q x ≡ k → firstOf p (filter q xs) ≡ firstOf p xs →
+        firstOf p (cond k (x ∷ filter q xs) (filter q xs)) ≡ cond j x (firstOf p xs)
+    go true true a b e = rw a
+    go true false a b e = cc (implies x a)
+    go false true a b e = rw (a, e)
+    go false false a b e = e
+
+-- those before i do not pass
+pub record Picking (p : Field → Bool) (s calls : List ℕ) (count i : ℕ) (r : Field) : Type 0 where
+  pub within : i ≤ count
+  pub room : count ≤ length calls
+  pub left : firstOf p (map (λ n. front (drop n s)) (drop i (take count calls))) ≡ r
+
+pub debit-first : (s calls : List ℕ) (count : ℕ) → CallsOf s calls count → (v : Field) → Picking (withAmount isDebit v) s calls count 0 (debitOf (front s) v)
+unfolding debitOf
+debit-first s calls count t v = record {
+  within = omega arith;
+  room = t .room;
+  left = rw (t .read) (first-first (withAmount isDebit v) isCall (amount-call isDebit debit-call v) (exprs (front s)));
+}
+
+module _ (p : Field → Bool) (s calls : List ℕ) (count i : ℕ) (r : Field) (v : Picking p s calls count i r) where
+  pub picking-none : count ≤ i → front [] ≡ r
+  unfolding firstOf
+  picking-none h =
+      front-none [] refl ∙ (rw (drop-of-length-le (take count calls) {i = i} (omega (arith, length-take-le count calls (v .room)))) at (v .left))
+
+  module _ (h : i < count) (n : ℕ) (k : n ≡ getD calls i 0) (x : List ℕ) (e : x ≡ drop n s) (b : Bool) (f : b ≡ p (front x)) where
+    ahead : drop i (take count calls) ≡ n ∷ drop (i + 1) (take count calls)
+    ahead =
+        let j : i < length (take count calls) = omega (arith, length-take-le count calls (v .room)) in
+        drop-step (take count calls) i j ∙ rw (getD-take count calls i 0 h, k)
+
+    pub picking-found : b ≡ true → front x ≡ r
+    unfolding firstOf
+    picking-found g = rw (ahead, ← e, ← f, g) at (v .left)
+
+    pub picking-on : b ≡ false → Picking p s calls count (i + 1) r
+    unfolding firstOf
+    picking-on g = record { within = omega arith; room = v .room; left = rw (ahead, ← e, ← f, g) at (v .left) }

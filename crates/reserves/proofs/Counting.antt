@@ -1,0 +1,205 @@
+-- A guard that counts has an expression in it, so the two numbers that are written of it take six bytes of the file, and a
+-- table of one number for each three bytes of a file has room for all.
+use Prim.Native.Nat.{ℕ, _+_, _*_, _^_, _%_, _≤_, _<_}
+use mathlib.Core.Path.{_≡_, refl}
+use mathlib.Core.Bool.{Bool, true, false, cond, not, _&&_}
+use mathlib.Core.List.{List, [], _∷_, map, flatMap}
+use native.Mathlib.Omega.{arith}
+use native.Mathlib.Nat.{mod-eq-of-lt}
+use borrow.Author.Tests.{not-true, not-false, eq-eqb, ne-eqb, leb-true}
+use lib.Dec.{eqb}
+use lib.ListN.{length, take, drop, length-append, length-drop, length-map}
+use Rattle.fields.specs.Lists.{any, sameBytes}
+use Rattle.fields.specs.Tag.{State, Guard, isWrapper}
+use Rattle.fields.specs.Table.{Listed, Room}
+use Rattle.fields.specs.Field.{Field, Fields, Placed, fields, lengthOf, whole, front, tag, parts, part, nth, nothing, size, sizes, fieldsFrom, placed, placedParts}
+use Rattle.fields.specs.Field.Field.{field}
+use Rattle.fields.specs.Field.Fields.{end, next}
+use Rattle.fields.proofs.Reading.{front-none}
+use Rattle.fields.proofs.Places.{front-size, parts-inside, tree-size}
+use Rattle.fields.proofs.Tables.{listed-none, listed-then, listed-front}
+use Rattle.fields.proofs.Listing.{Row}
+use Rattle.questions.specs.Model.{nameOf, stateNames, body}
+use Rattle.walking.specs.Walking.{peel, peelFirst}
+use Rattle.walking.specs.Table.{placedAt}
+use Rattle.equality.proofs.Equality.{nothing-right}
+use Rattle.reserves.specs.Reserves.{guardedField, guardedAmount, assigns, containsWrapping, loweredBy, lowers}
+use Rattle.reserves.specs.Candidates.{counts, stateIndex, numbersAt, candidateNumbers, Candidates}
+use Rattle.reserves.proofs.General.{and-false, any-none, position-inside, size-least, row-few}
+
+-- What is missing does not count
+
+missing-lowers : (r : List ℕ) (s : Field) → lowers nothing r s ≡ false
+unfolding lowers
+missing-lowers r s = rw (nothing-right (loweredBy r s)) (and-false (assigns r s && not (containsWrapping (part 1 s))))
+
+missing-amount : guardedAmount nothing ≡ nothing
+unfolding guardedAmount peel peelFirst isWrapper
+missing-amount = refl
+
+missing-counts : (model : Fields) (entry : Field) → counts model entry nothing ≡ false
+unfolding counts
+missing-counts model entry =
+    rw (missing-amount, any-none (lowers nothing (guardedField nothing)) (missing-lowers (guardedField nothing)) (body entry))
+    (and-false (any (sameBytes (guardedField nothing)) (stateNames model)))
+
+pub counts-size : (model : Fields) (entry f : Field) → counts model entry (part 0 f) ≡ true → 6 ≤ size f
+unfolding nth size
+counts-size model entry (field t x (end r)) h = leb-true 6 (size (field t x (end r))) (cc (missing-counts model entry))
+counts-size model entry (field t x (next g gs)) h = omega (arith, size-least g)
+
+-- Writing the two numbers
+
+module _ (model : Fields) (entry : Field) (s : List ℕ) (at : ℕ) (t : List ℕ) (n g : ℕ) (e : g ≡ tag (front s)) where
+  abbrev numbers : List ℕ
+  numbers = numbersAt model entry (record { place = at; this = front s })
+
+  pub other-part : (g ≡ 0x10 → ⊥) → Listed numbers t n t n
+  unfolding numbersAt
+  other-part h = rw (← e, ne-eqb g 0x10 h) (listed-none t n)
+
+  module _ (h : g ≡ 0x10) (x : List ℕ) (f : front x ≡ part 0 (front s)) (b : Bool) (i : b ≡ counts model entry (front x)) where
+    pub not-counted : not b ≡ true → Listed numbers t n t n
+    unfolding numbersAt
+    not-counted k = rw (← e, eq-eqb g 0x10 h, ← f, ← i, not-true b k) (listed-none t n)
+
+    module _ (k : not b ≡ false) where
+      counted : counts model entry (part 0 (front s)) ≡ true
+      counted = rw (← f, ← i) (not-false b k)
+
+      long : 6 ≤ length s
+      unfolding nth
+      long = go (whole s) refl
+        where
+          go : (w : Bool) → whole s ≡ w → 6 ≤ length s
+          go true w = omega (arith, counts-size model entry (front s) counted, front-size s w, leb-true (3 + lengthOf s) (length s) w)
+          go false w =
+              let z : counts model entry nothing ≡ true = rw (front-none s w) at counted in
+              leb-true 6 (length s) (cc (z, missing-counts model entry))
+
+      module _ (room : Room s at n) where
+        pub first-fits : n + 1 < 2 ^ 64
+        first-fits = omega (arith, long, room .count)
+
+        pub second-fits : (j m : ℕ) (u : List ℕ) → Listed (cond true (j ∷ []) []) t n u m → m + 1 < 2 ^ 64
+        second-fits j m u p = omega (arith, long, room .count, p .count)
+
+      pub both-written : (m : ℕ) (u : List ℕ) → Listed (cond true (at % 65536 ∷ []) []) t n u m → (y : List ℕ) → y ≡ guardedField (front x) →
+          (j : ℕ) → j ≡ stateIndex model y → (v : List ℕ) (r : ℕ) → Listed (cond true (j % 65536 ∷ []) []) u m v r → Listed numbers t n v r
+      unfolding numbersAt
+      both-written m u p y a j c v r q =
+          rw (← e, eq-eqb g 0x10 h, ← f, ← i, not-false b k, ← a, ← c)
+          (listed-then (at % 65536 ∷ []) (j % 65536 ∷ []) t u v n m r p q)
+
+-- Along the parts of an entry
+
+-- what is written of a part, and of a row of them
+abbrev pub oneOf : Fields × Field → ℕ → Fields → List ℕ
+oneOf z n fs = numbersAt (z .0) (z .1) (record { place = n; this = nth 0 fs })
+
+abbrev pub manyOf : Fields × Field → ℕ → Fields → List ℕ
+manyOf z n fs = flatMap (numbersAt (z .0) (z .1)) (placed n fs)
+
+two-few : (model : Fields) (entry : Field) (p : Placed) → 3 * length (numbersAt model entry p) ≤ size (p .this)
+unfolding numbersAt
+two-few model entry p = go (eqb (tag (p .this)) Guard) (counts model entry (part 0 (p .this))) refl
+  where
+    go : (j k : Bool) → counts model entry (part 0 (p .this)) ≡ k →
+        3 * length (cond (j && k) (p .place % 65536 ∷ stateIndex model (guardedField (part 0 (p .this))) % 65536 ∷ []) []) ≤ size (p .this)
+    go true true e = omega (arith, counts-size model entry (p .this) e)
+    go true false e = omega arith
+    go false k e = omega arith
+
+pub candidate-row : (z : Fields × Field) → Row (oneOf z) (manyOf z)
+unfolding flatMap placed nth
+candidate-row z =
+    record {
+      none = λ n r. refl;
+      more = λ n f fs. refl;
+      few = λ n f fs. two-few (z .0) (z .1) (record { place = n; this = f });
+    }
+
+-- How many there are
+
+many-few : (z : Fields × Field) (n : ℕ) (fs : Fields) → 3 * length (manyOf z n fs) ≤ sizes fs
+unfolding flatMap placed sizes
+many-few z n (end r) = omega arith
+many-few z n (next f fs) =
+    rw (length-append (numbersAt (z .0) (z .1) (record { place = n; this = f })) (manyOf z (n + size f) fs))
+    (omega (arith, two-few (z .0) (z .1) (record { place = n; this = f }), many-few z (n + size f) fs))
+
+pub candidates-few : (model : Fields) (file : List ℕ) (n : ℕ) → 3 * length (candidateNumbers model (placedAt file n)) ≤ length file
+unfolding candidateNumbers flatMap placed
+candidates-few model file n = go (whole (drop n file)) refl
+  where
+    go : (w : Bool) → whole (drop n file) ≡ w → 3 * length (candidateNumbers model (placedAt file n)) ≤ length file
+    go true w =
+        omega (
+          arith,
+          many-few (model, front (drop n file)) (n + 3) (parts (front (drop n file))),
+          parts-inside (front (drop n file)),
+          front-size (drop n file) w,
+          leb-true (3 + lengthOf (drop n file)) (length (drop n file)) w,
+          length-drop n file,
+        )
+    go false w = rw (front-none (drop n file) w) (omega arith)
+
+-- so a table of one number for each three bytes of the file holds them all
+pub candidates-listed : (file : List ℕ) (place : ℕ) (table last : List ℕ) (r : ℕ) →
+    Listed (candidateNumbers (fields file) (placedAt file place)) table 0 last r → length file ≤ 3 * length table → Candidates file place last r
+candidates-listed file place table last r p h =
+    record {
+      all = listed-front (candidateNumbers (fields file) (placedAt file place)) table last r p (omega (arith, p .count, candidates-few (fields file) file place));
+      many = omega (arith, p .count);
+    }
+
+-- as does a table of 10,923 numbers for every file that passes question 1
+pub candidates-all : (file : List ℕ) (place : ℕ) (table last : List ℕ) (r : ℕ) →
+    Listed (candidateNumbers (fields file) (placedAt file place)) table 0 last r → length file ≤ 32768 → length table ≡ 10923 → Candidates file place last r
+candidates-all file place table last r p h w = candidates-listed file place table last r p (omega arith)
+
+-- Up to 65,535 the two bytes hold the numbers themselves
+
+-- what the table says of a part: the guard that stands at the first number, and its state field
+unfoldable pub exactAt : Fields → Field → Placed → List ℕ
+exactAt model entry p =
+    cond (eqb (tag (p .this)) Guard && counts model entry (part 0 (p .this))) (p .place ∷ stateIndex model (guardedField (part 0 (p .this))) ∷ []) []
+
+index-small : (file r : List ℕ) → length file ≤ 32768 → stateIndex (fields file) r < 65536
+unfolding stateIndex stateNames
+index-small file r h =
+    omega (
+      arith,
+      position-inside (sameBytes r) (map nameOf (fieldsFrom State State (fields file))),
+      length-map (fieldsFrom State State (fields file)) nameOf,
+      row-few State State (fields file),
+      tree-size file,
+    )
+
+exact-row : (file : List ℕ) → length file ≤ 32768 → (entry : Field) (n : ℕ) (fs : Fields) → n + sizes fs ≤ 65536 →
+    flatMap (numbersAt (fields file) entry) (placed n fs) ≡ flatMap (exactAt (fields file) entry) (placed n fs)
+unfolding flatMap placed sizes numbersAt exactAt
+exact-row file h entry n (end r) l = refl
+exact-row file h entry n (next f fs) l =
+    let a : n % 65536 ≡ n = mod-eq-of-lt (omega (arith, size-least f)) in
+    let b : stateIndex (fields file) (guardedField (part 0 f)) % 65536 ≡ stateIndex (fields file) (guardedField (part 0 f)) =
+    mod-eq-of-lt (index-small file (guardedField (part 0 f)) h) in
+    rw (a, b, exact-row file h entry (n + size f) fs (omega arith))
+
+pub candidates-read : (file : List ℕ) → length file ≤ 32768 → (place : ℕ) →
+    candidateNumbers (fields file) (placedAt file place) ≡ flatMap (exactAt (fields file) (front (drop place file))) (placedParts (placedAt file place))
+unfolding candidateNumbers flatMap placed
+candidates-read file h place = go (whole (drop place file)) refl
+  where
+    go : (w : Bool) → whole (drop place file) ≡ w →
+        candidateNumbers (fields file) (placedAt file place) ≡ flatMap (exactAt (fields file) (front (drop place file))) (placedParts (placedAt file place))
+    go true w =
+        exact-row file h (front (drop place file)) (place + 3) (parts (front (drop place file)))
+        (omega (
+          arith,
+          parts-inside (front (drop place file)),
+          front-size (drop place file) w,
+          leb-true (3 + lengthOf (drop place file)) (length (drop place file)) w,
+          length-drop place file,
+        ))
+    go false w = rw (front-none (drop place file) w)

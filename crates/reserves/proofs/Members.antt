@@ -1,0 +1,137 @@
+-- Only a member can be `p.amount`, so a table of the members in an amount has all that matter. An asset parameter without a
+-- name is the exception: what is no `p.amount` names it.
+use Prim.Native.Nat.{ℕ, _+_, _*_, _≤_, _<_}
+use mathlib.Core.Path.{_≡_, refl, sym, ap, _∙_}
+use mathlib.Core.Bool.{Bool, true, false, cond, _&&_}
+use mathlib.Core.List.{List, [], _∷_, _++_}
+use native.Mathlib.Omega.{arith}
+use borrow.Author.Tests.{leb-true, eqb-true}
+use lib.Dec.{eqb}
+use lib.ListN.{length, getD, drop}
+use Rattle.fields.specs.Lists.{any, sameBytes, bytes}
+use Rattle.fields.specs.Tag.{Member, Identifier, isExpression}
+use Rattle.fields.specs.Table.{Listed}
+use Rattle.fields.specs.Field.{Field, Fields, lengthOf, whole, front, tag, text, part, nth, size, sizes}
+use Rattle.fields.specs.Field.Field.{field}
+use Rattle.fields.specs.Field.Fields.{end, next}
+use Rattle.fields.proofs.Lists.{any-first, map-append}
+use Rattle.fields.proofs.Reading.{front-none}
+use Rattle.fields.proofs.Places.{front-size}
+use Rattle.fields.proofs.Tables.{listed-front}
+use Rattle.fields.proofs.Seeking.{Seeking, seeking-found, seeking-on}
+use Rattle.walking.specs.Walking.{walk, walkParts, withoutPlaces, ident, assetAmountBacker, assetParams}
+use Rattle.walking.specs.Table.{placesOf}
+use Rattle.walking.proofs.Callers.{expression-few, expression-read}
+use Rattle.tokens.specs.Tokens.{isInflow}
+use Rattle.tokens.proofs.Funded.{any-mapped}
+use Rattle.reserves.specs.Reserves.{containsInflow}
+use Rattle.reserves.proofs.General.{or-left, or-either, any-left}
+
+abbrev isMember : Field → Bool
+isMember f = eqb (tag f) Member
+
+member-only : (entry : Field) → any (sameBytes []) (assetParams entry) ≡ false → (f : Field) → isInflow entry f ≡ true → isMember f ≡ true
+unfolding isInflow assetAmountBacker
+member-only entry n f h = go (isMember f) refl
+  where
+    go : (k : Bool) → isMember f ≡ k → isMember f ≡ true
+    go true e = e
+    go false e = cc
+
+-- An asset parameter without a name
+
+module _ (entry : Field) (z : any (sameBytes []) (assetParams entry) ≡ true) where
+  unnamed : (f : Field) → assetAmountBacker f ≡ [] → isInflow entry f ≡ true
+  unfolding isInflow
+  unnamed f e = rw e z
+
+  identifier-unnamed : (f : Field) → eqb (tag f) Identifier ≡ true → isInflow entry f ≡ true
+  unfolding assetAmountBacker
+  identifier-unnamed f e = unnamed f (rw (eqb-true (tag f) Identifier e))
+
+  either-way : (k : Bool) (x : List ℕ) → x ≡ [] → cond k x [] ≡ []
+  either-way true x e = e
+  either-way false x e = refl
+
+  base-decides : (f : Field) → eqb (tag (part 0 f)) Identifier ≡ false → isInflow entry f ≡ true
+  unfolding assetAmountBacker ident
+  base-decides f e =
+      let i : ident (part 0 f) ≡ [] = rw e in
+      unnamed f (either-way (eqb (tag f) Member && sameBytes (text (part 1 f)) (bytes "amount")) (ident (part 0 f)) i)
+
+  walked-first : (n : ℕ) (f : Field) → eqb (tag f) Identifier ≡ true → any (isInflow entry) (withoutPlaces (walk n f)) ≡ true
+  unfolding any walk isExpression
+  walked-first n (field t x ps) e = rw (eqb-true t Identifier e) (or-left _ _ (identifier-unnamed (field 0x33 x ps) refl))
+
+  inside : (n t : ℕ) (x : List ℕ) (ps : Fields) → isInflow entry (field t x ps) ≡ false → any (isInflow entry) (withoutPlaces (walkParts n ps)) ≡ true
+  unfolding walkParts nth
+  inside n t x (end r) h = cc (base-decides (field t x (end r)) refl)
+  inside n t x (next f fs) h = go (eqb (tag f) Identifier) refl
+    where
+      go : (k : Bool) → eqb (tag f) Identifier ≡ k → any (isInflow entry) (withoutPlaces (walk n f ++ walkParts (n + size f) fs)) ≡ true
+      go true e =
+          rw (map-append (λ p. p .this) (walk n f) (walkParts (n + size f) fs))
+          (any-left (isInflow entry) (withoutPlaces (walk n f)) _ (walked-first n f e))
+      go false e = cc (base-decides (field t x (next f fs)) e)
+
+  every-expression : (f : Field) → isExpression (tag f) ≡ containsInflow entry f
+  unfolding containsInflow any walk
+  every-expression (field t x ps) = go (isExpression t)
+    where
+      go : (k : Bool) → k ≡ any (isInflow entry) (withoutPlaces (cond k (record { place = 0; this = field t x ps } ∷ walkParts 3 ps) []))
+      go true = sym (or-either _ _ (inside 3 t x ps))
+      go false = refl
+
+-- as the code tests it
+pub nameless : (entry amount : List ℕ) (b : Bool) → b ≡ any (sameBytes []) (assetParams (front entry)) → b ≡ true →
+    (t : ℕ) → t ≡ tag (front amount) → (r : Bool) → r ≡ isExpression t → r ≡ containsInflow (front entry) (front amount)
+nameless entry amount b e h t f r g = g ∙ rw f (every-expression (front entry) (sym e ∙ h) (front amount))
+
+-- The members in the amount
+
+few-members : (s : List ℕ) → length s ≤ 32768 → length (placesOf Member (walk 0 (front s))) ≤ 10923
+unfolding size sizes
+few-members s h = go (whole s) refl
+  where
+    few : 3 * length (placesOf Member (walk 0 (front s))) ≤ size (front s)
+    few = expression-few 0 (front s) Member
+
+    go : (w : Bool) → whole s ≡ w → length (placesOf Member (walk 0 (front s))) ≤ 10923
+    go true w = omega (arith, few, front-size s w, leb-true (3 + lengthOf s) (length s) w)
+    go false w = omega (arith, few, ap size (front-none s w))
+
+-- whether the member at a place of s is `p.amount`
+unfoldable pub inflowAt : (entry s : List ℕ) → ℕ → Bool
+inflowAt entry s n = isInflow (front entry) (front (drop n s))
+
+module _ (entry s : List ℕ) (h : length s ≤ 32768) (b : Bool) (e : b ≡ any (sameBytes []) (assetParams (front entry))) (f : b ≡ false)
+    (table members : List ℕ) (count : ℕ) (l : Listed (placesOf Member (walk 0 (front s))) table 0 members count) (k : length table ≡ 10923) where
+  enough : count ≤ length table
+  enough = omega (arith, l .count, few-members s h)
+
+  pub members-all : length members ≡ length table → Seeking (inflowAt entry s) members count 0 (containsInflow (front entry) (front s))
+  unfolding containsInflow inflowAt
+  members-all w = record {
+    within = omega arith;
+    room = omega (arith, enough);
+    left =
+        rw (
+          listed-front (placesOf Member (walk 0 (front s))) table members count l enough,
+          any-mapped (isInflow (front entry)) (λ n. front (drop n s)) (placesOf Member (walk 0 (front s))),
+          expression-read s Member (omega arith),
+        )
+        (any-first (isInflow (front entry)) isMember (member-only (front entry) (sym e ∙ f)) (withoutPlaces (walk 0 (front s))));
+  }
+
+-- one member after the other
+module _ (entry s members : List ℕ) (count i : ℕ) (r : Bool) (v : Seeking (inflowAt entry s) members count i r) (h : i < count)
+    (n : ℕ) (k : n ≡ getD members i 0) (x : List ℕ) (e : x ≡ drop n s) (b : Bool) (f : b ≡ isInflow (front entry) (front x)) where
+  here : inflowAt entry s (getD members i 0) ≡ b
+  unfolding inflowAt
+  here = rw (f, e, k)
+
+  pub members-found : b ≡ true → true ≡ r
+  members-found g = seeking-found (inflowAt entry s) members count i r v h (here ∙ g)
+
+  pub members-on : b ≡ false → Seeking (inflowAt entry s) members count (i + 1) r
+  members-on g = seeking-on (inflowAt entry s) members count i r v h (here ∙ g)

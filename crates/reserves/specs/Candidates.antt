@@ -1,0 +1,37 @@
+-- The guards of an entry that can matter for a payout, as numbers of two bytes in a lent table.
+use Prim.Native.Nat.{ℕ, _%_}
+use mathlib.Core.Path.{_≡_}
+use mathlib.Core.Bool.{Bool, cond, _&&_}
+use mathlib.Core.List.{List, [], _∷_, flatMap}
+use lib.Dec.{eqb}
+use lib.ListN.{length, take}
+use Rattle.fields.specs.Lists.{any, position, sameBytes}
+use Rattle.fields.specs.Tag.{Guard}
+use Rattle.fields.specs.Field.{Field, Fields, Placed, fields, tag, part, placedParts}
+use Rattle.questions.specs.Model.{stateNames, body}
+use Rattle.walking.specs.Table.{placedAt}
+use Rattle.reserves.specs.Reserves.{guardedField, guardedAmount, lowers}
+
+-- a guard's expression bounds an amount by a state field, which some statement of the body lowers by that amount
+unfoldable pub counts : Fields → Field → Field → Bool
+counts model entry g = any (sameBytes (guardedField g)) (stateNames model) && any (lowers (guardedAmount g) (guardedField g)) (body entry)
+
+-- the number of a state field of that name
+unfoldable pub stateIndex : Fields → List ℕ → ℕ
+stateIndex model r = position (sameBytes r) (stateNames model)
+
+-- what is written of a part of the entry: where it is a guard that counts, its place and the number of its state field; up to
+-- 65,535 those are the numbers themselves (proofs/Counting.antt)
+unfoldable pub numbersAt : Fields → Field → Placed → List ℕ
+numbersAt model entry p =
+    cond (eqb (tag (p .this)) Guard && counts model entry (part 0 (p .this)))
+    (p .place % 65536 ∷ stateIndex model (guardedField (part 0 (p .this))) % 65536 ∷ []) []
+
+-- of all parts of the entry
+unfoldable pub candidateNumbers : Fields → Placed → List ℕ
+candidateNumbers model entry = flatMap (numbersAt model (entry .this)) (placedParts entry)
+
+-- a table holds them all, in front
+pub record Candidates (file : List ℕ) (place : ℕ) (table : List ℕ) (count : ℕ) : Type 0 where
+  pub all : take count table ≡ candidateNumbers (fields file) (placedAt file place)
+  pub many : count ≡ length (candidateNumbers (fields file) (placedAt file place))

@@ -1,0 +1,103 @@
+// SPDX-License-Identifier: Apache-2.0 OR MIT
+// The guards of an entry that can matter for a payout: listed once, so that a payout takes time by their number. A payout's
+// amount that equals a guard's is lowered exactly if the guard's is.
+use super::guarded::guarded_amount;
+use super::guarded::guarded_field;
+use super::lowering::is_lowered;
+use fields::bytes::same_bytes;
+use fields::bytes::skip;
+use fields::front::after_front;
+use fields::front::first_from;
+use fields::front::is_whole;
+use fields::front::length_of;
+use fields::front::part_of;
+use fields::front::parts_of;
+use fields::front::tag_of;
+use fields::table::note;
+use fields::tag::GUARD;
+use fields::tag::STATE;
+use questions::state::has_state;
+use questions::state::name_of;
+ghost use mathlib.Core.Path.{_≡_};
+ghost use Rattle.fields.specs.Field.{fields, front};
+ghost use Rattle.fields.specs.Table.{Listed, Room};
+ghost use Rattle.walking.specs.Table.{placedAt};
+ghost use Rattle.reserves.specs.Candidates.{counts, stateIndex, numbersAt, candidateNumbers};
+
+// The number of the first state field of that name, counted from 0; how many there are where none has it.
+pub fn state_index(file: &[u8], name: &[u8]) -> usize
+    ensures { λ r. ⌜ r ≡ stateIndex (fields (now (file .entry))) (now (name .entry)) ⌝ }
+{
+    let mut t = first_from(file, STATE, STATE);
+    let mut n = 0;
+    while is_whole(t) {
+        if same_bytes(name, name_of(t)) {
+            return n;
+        }
+        let u = first_from(after_front(t), STATE, STATE);
+        t = u;
+        n += 1;
+    }
+    n
+}
+
+// Whether the guard's expression at the front of s counts.
+fn guard_counts(file: &[u8], entry: &[u8], s: &[u8]) -> bool
+    ensures { λ r. ⌜ r ≡ counts (fields (now (file .entry))) (front (now (entry .entry))) (front (now (s .entry))) ⌝ }
+{
+    let name = guarded_field(s);
+    if !has_state(file, name) {
+        return false;
+    }
+    is_lowered(entry, guarded_amount(s), name)
+}
+
+// Writes the two numbers of the part of the entry at the front of s, which stands at a place of the file, where it is a guard
+// that counts.
+fn note_candidate(
+    file: &[u8],
+    entry: &[u8],
+    s: &[u8],
+    at: usize,
+    table: &mut [u16],
+    n: usize,
+) -> usize
+    requires { ⌜ Room (now s) at n ⌝ }
+    ensures { λ r. ⌜ Listed (numbersAt (fields (now (file .entry))) (front (now (entry .entry))) (record { place = at; this = front (now (s .entry)) })) (now (table .entry)) n (now (table .exit)) r ⌝ }
+{
+    if tag_of(s) != GUARD {
+        return n;
+    }
+    let guard = part_of(s, 0);
+    if !guard_counts(file, entry, guard) {
+        return n;
+    }
+    let m = note(true, at % 65536, table, n);
+    note(
+        true,
+        state_index(file, guarded_field(guard)) % 65536,
+        table,
+        m,
+    )
+}
+
+// Lists the guards that count in the body of the entry at a place of the file, as far as the table has room, and answers how
+// many numbers that takes: of each the place, and the number of its state field.
+pub fn list_candidates(file: &[u8], place: usize, table: &mut [u16]) -> usize
+    ensures { λ r. ⌜ Listed (candidateNumbers (fields (now (file .entry))) (placedAt (now (file .entry)) place)) (now (table .entry)) 0 (now (table .exit)) r ⌝ }
+{
+    let entry = skip(file, place);
+    if !is_whole(entry) {
+        return 0;
+    }
+    let mut t = parts_of(entry);
+    let mut at = place + 3;
+    let mut n = 0;
+    while is_whole(t) {
+        n = note_candidate(file, entry, t, at, table, n);
+        at += 3 + length_of(t);
+        let u = after_front(t);
+        t = u;
+    }
+    n
+}

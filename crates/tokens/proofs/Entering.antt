@@ -1,0 +1,153 @@
+-- The entries of a file, one after the other: whoever lists the calls of those that are left has listed all. There are few of
+-- them, since each call takes three bytes at least.
+use Prim.Native.Nat.{ℕ, _+_, _-_, _*_, _≤_, _<_}
+use mathlib.Core.Path.{_≡_, refl, sym, ap, _∙_}
+use mathlib.Core.Bool.{Bool, true, false, cond}
+use mathlib.Core.List.{List, [], _∷_, _++_, flatMap}
+use native.Mathlib.Omega.{arith}
+use borrow.Author.Tests.{leb-true, leb-false}
+use lib.Dec.{leb}
+use lib.ListN.{length, drop, length-drop, length-append, drop-of-length-le}
+use lib.Seq.{length-sets, drop-drop, drop-length}
+use Rattle.fields.specs.Lists.{filter}
+use Rattle.fields.specs.Tag.{Entry, between}
+use Rattle.fields.specs.Table.{Listed}
+use Rattle.fields.specs.Field.{Field, Fields, Placed, fields, lengthOf, whole, after, front, tag, size, sizes, placed, placedFrom, placeFrom, from}
+use Rattle.fields.specs.Field.Fields.{end, next}
+use Rattle.fields.proofs.Places.{front-size, tree-size}
+use Rattle.fields.proofs.Rows.{after-size, restOf, from-shorter, from-placed, rest-next}
+use Rattle.fields.proofs.Tables.{listed-none, listed-then, listed-front}
+use Rattle.questions.specs.Model.{entries}
+use Rattle.walking.specs.Walking.{bodyExprs}
+use Rattle.walking.specs.Table.{placedAt}
+use Rattle.walking.proofs.Within.{within-length, body-within}
+use Rattle.tokens.specs.Fundings.{tokensNumber, isFundingCall, numbersOf, fundingsOf, fundings, Fundings, Standing}
+
+-- How many there are
+
+numbers-few : (e : Field) (number : ℕ) (ps : List Placed) → length (flatMap (numbersOf e number) ps) ≤ 2 * length ps
+unfolding flatMap numbersOf
+numbers-few e number [] = omega arith
+numbers-few e number (p ∷ ps) = go (isFundingCall e (p .this)) (numbers-few e number ps)
+  where
+    go : (k : Bool) → length (flatMap (numbersOf e number) ps) ≤ 2 * length ps →
+        length (cond k (p .place ∷ number ∷ []) [] ++ flatMap (numbersOf e number) ps) ≤ 2 * length (p ∷ ps)
+    go true h = omega (arith, h)
+    go false h = omega (arith, h)
+
+entry-few : (file : List ℕ) (p : Placed) → 3 * length (fundingsOf file p) ≤ 2 * size (p .this)
+unfolding fundingsOf
+entry-few file p =
+    omega (arith, numbers-few (p .this) (tokensNumber file p) (bodyExprs p), within-length (p .place + 3) (p .place + size (p .this)) (bodyExprs p) (body-within p))
+
+row-few : (file : List ℕ) (n : ℕ) (fs : Fields) → 3 * length (flatMap (fundingsOf file) (placedFrom Entry Entry n fs)) ≤ 2 * sizes fs
+unfolding flatMap placedFrom filter placed sizes
+row-few file n (end r) = omega arith
+row-few file n (next f fs) = go (between Entry Entry (tag f)) (row-few file (n + size f) fs)
+  where
+    go : (k : Bool) → 3 * length (flatMap (fundingsOf file) (placedFrom Entry Entry (n + size f) fs)) ≤ 2 * sizes fs →
+        3 * length (flatMap (fundingsOf file) (cond k (record { place = n; this = f } ∷ placedFrom Entry Entry (n + size f) fs) (placedFrom Entry Entry (n + size f) fs))) ≤ 2 * (size f + sizes fs)
+    go true h =
+        rw (length-append (fundingsOf file (record { place = n; this = f })) (flatMap (fundingsOf file) (placedFrom Entry Entry (n + size f) fs)))
+        (omega (arith, h, entry-few file (record { place = n; this = f })))
+    go false h = omega (arith, h)
+
+fundings-few : (file : List ℕ) → 3 * length (fundings file) ≤ 2 * length file
+unfolding fundings entries
+fundings-few file = omega (arith, row-few file 0 (fields file), tree-size file)
+
+-- What a caller cites: nothing was listed, or all in a table with room
+
+pub fundings-unlisted : (file table : List ℕ) → Fundings file table 65535
+fundings-unlisted file table = record { room = λ n. absurd (n refl); listed = λ n. absurd (n refl) }
+
+pub fundings-wide : (file zeros table : List ℕ) (count : ℕ) → length file ≤ 32768 → 21845 ≤ length zeros → Listed (fundings file) zeros 0 table count →
+    Fundings file table count
+fundings-wide file zeros table count h k l =
+    let m : count ≤ length zeros = omega (arith, l .count, fundings-few file) in
+    let w : length table ≡ length zeros = rw (l .kept) (length-sets zeros 0 (fundings file)) in
+    record {
+      room = λ n. omega arith;
+      listed = λ n. listed-front (fundings file) zeros table count l m;
+    }
+
+pub fundings-listed : (file zeros table : List ℕ) (count : ℕ) → length file ≤ 32768 → length zeros ≡ 21846 → Listed (fundings file) zeros 0 table count →
+    Fundings file table count
+fundings-listed file zeros table count h k l = fundings-wide file zeros table count h (omega (arith, k)) l
+
+-- One entry after the other
+
+tail-of : (file t : List ℕ) (j : ℕ) → t ≡ drop j file → t ≡ drop (length file - length t) file
+tail-of file t j e = go (leb j (length file)) refl
+  where
+    go : (k : Bool) → leb j (length file) ≡ k → t ≡ drop (length file - length t) file
+    go true h =
+        let l : length t ≡ length file - j = rw (e, length-drop j file) in
+        let z : length file - length t ≡ j = omega (arith, leb-true j (length file) h) in
+        e ∙ rw z
+    go false h =
+        let b : length file < j = leb-false j (length file) h in
+        let n : t ≡ [] = e ∙ drop-of-length-le file {i = j} (omega arith) in
+        let l : length t ≡ 0 = rw n in
+        let z : length file - length t ≡ length file = omega arith in
+        n ∙ sym (ap (λ k. drop k file) z ∙ drop-length file)
+
+-- t starts with an entry of the file, or has no whole field
+pub record Entering (file table last t : List ℕ) (m : ℕ) : Type 0 where
+  pub tail : t ≡ drop (length file - length t) file
+  pub within : length t ≤ length file
+  pub few : 3 * m + 2 * length t ≤ 2 * length file
+  pub wide : length last ≡ length table
+  pub left : (v : List ℕ) (r : ℕ) → Listed (flatMap (fundingsOf file) (restOf Entry Entry 0 file t)) last m v r → Listed (fundings file) table 0 v r
+
+pub entering-first : (file table t : List ℕ) → t ≡ from Entry Entry file → Entering file table table t 0
+unfolding fundings entries
+entering-first file table t e =
+    let l : length t ≤ length file = rw e (from-shorter Entry Entry file) in
+    record {
+      tail = tail-of file t (placeFrom Entry Entry (fields file)) e;
+      within = l;
+      few = omega arith;
+      wide = refl;
+      left = λ v r p. rw (from-placed Entry Entry file 0, ← e) p;
+    }
+
+module _ (file table last t : List ℕ) (m : ℕ) (i : Entering file table last t m) where
+  pub entering-done : whole t ≡ false → Listed (fundings file) table 0 last m
+  unfolding flatMap
+  entering-done w = i .left last m (rw w (listed-none last m))
+
+  pub entering-here : length file ≤ 32768 → Standing file (length file - length t) m
+  entering-here h = record { short = h; within = omega arith; few = omega (arith, i .few) }
+
+  module _ (w : whole t ≡ true) (u : List ℕ) (k : ℕ) (p : Listed (fundingsOf file (placedAt file (length file - length t))) last m u k)
+      (y j : List ℕ) (a : y ≡ after t) (b : j ≡ from Entry Entry y) where
+    abbrev here : Placed
+    here = record { place = length file - length t; this = front t }
+
+    listed-here : Listed (fundingsOf file here) last m u k
+    listed-here = rw (← i .tail) at p
+
+    next-listed : (v : List ℕ) (r : ℕ) → Listed (flatMap (fundingsOf file) (restOf Entry Entry 0 file j)) u k v r →
+        Listed (flatMap (fundingsOf file) (restOf Entry Entry 0 file t)) last m v r
+    unfolding flatMap
+    next-listed v r q =
+        let z : 0 + (length file - length t) ≡ length file - length t = omega arith in
+        rw (w, z, rest-next Entry Entry 0 file t (i .within), ← a, ← b) (listed-then _ _ last u v m k r listed-here q)
+
+    next-tail : j ≡ drop (length file - length j) file
+    next-tail =
+        tail-of file j (length file - length t + (3 + lengthOf t) + placeFrom Entry Entry (fields y))
+        (b ∙ rw (← drop-drop (placeFrom Entry Entry (fields y)) (length file - length t + (3 + lengthOf t)) file, ← drop-drop (3 + lengthOf t) (length file - length t) file, ← i .tail, a))
+
+    pub entering-on : Entering file table u j k
+    entering-on =
+        let l : length j ≤ length y = rw b (from-shorter Entry Entry y) in
+        let d : length t ≡ 3 + lengthOf t + length y = rw a (after-size t w) in
+        record {
+          tail = next-tail;
+          within = omega (arith, i .within);
+          few = omega (arith, i .few, listed-here .count, entry-few file here, front-size t w);
+          wide = rw (p .kept) (length-sets last m (fundingsOf file (placedAt file (length file - length t)))) ∙ i .wide;
+          left = λ v r q. i .left v r (next-listed v r q);
+        }

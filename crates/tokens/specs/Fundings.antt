@@ -1,0 +1,95 @@
+-- The calls of a file that fund some map, listed once as numbers of two bytes, so that a map's token is found by a loop over
+-- them. A set of tokens is a number: 0 it is empty, 1 it has two that differ, p + 2 it has one token, which the comparison at
+-- place p of the file names.
+use Prim.Native.Nat.{ℕ, _+_, _-_, _*_, _%_, _≤_, _<_}
+use mathlib.Core.Path.{_≡_}
+use mathlib.Core.Bool.{Bool, cond, _&&_}
+use mathlib.Core.List.{List, [], _∷_, map, flatMap}
+use lib.Dec.{eqb, leb}
+use lib.ListN.{length, take, drop}
+use Rattle.fields.specs.Lists.{sameBytes, known}
+use Rattle.fields.specs.Field.{Field, Placed, fields, front, part}
+use Rattle.questions.specs.Model.{entries}
+use Rattle.walking.specs.Walking.{peel, receiver, bodyExprs}
+use Rattle.conditions.specs.Conditions.{Condition, requiredConditions}
+use Rattle.tokens.specs.Tokens.{besideInAsset, tokenNamed, isInflow, isCredit}
+
+-- Sets of tokens
+
+-- the one token of a set; none of an empty one and of one with two that differ
+unfoldable pub tokenOf : List ℕ → ℕ → List ℕ
+tokenOf file k = cond (leb 2 k) (besideInAsset (front (drop (k - 2) file))) []
+
+-- two sets together
+unfoldable pub joined : List ℕ → ℕ → ℕ → ℕ
+joined file a b = cond (eqb b 0) a (cond (eqb a 0) b (cond (sameBytes (tokenOf file a) (tokenOf file b)) a 1))
+
+-- a set and all of a list
+unfoldable pub joinedAll : List ℕ → ℕ → List ℕ → ℕ
+joinedAll file a [] = a
+joinedAll file a (b ∷ bs) = joinedAll file (joined file a b) bs
+
+-- what a condition of the entry at n names
+unfoldable pub conditionNumber : ℕ → Condition → ℕ
+conditionNumber n c = cond (known (tokenNamed c)) (n + c .place + 2) 0
+
+-- what an entry names
+unfoldable pub tokensNumber : List ℕ → Placed → ℕ
+tokensNumber file entry = joinedAll file 0 (map (conditionNumber (entry .place)) (requiredConditions (entry .this)))
+
+-- Calls that fund some map
+
+-- a credit with a second argument, peeled, `p.amount`, of whatever map
+unfoldable pub isFundingCall : Field → Field → Bool
+isFundingCall entry f = isCredit f && isInflow entry (peel (part 2 f))
+
+-- the two numbers of such a call: its place in the file, and what its entry names
+unfoldable pub numbersOf : Field → ℕ → Placed → List ℕ
+numbersOf entry number call = cond (isFundingCall entry (call .this)) (call .place ∷ number ∷ []) []
+
+-- those of an entry, in walk order
+unfoldable pub fundingsOf : List ℕ → Placed → List ℕ
+fundingsOf file entry = flatMap (numbersOf (entry .this) (tokensNumber file entry)) (bodyExprs entry)
+
+-- those of a file
+unfoldable pub fundings : List ℕ → List ℕ
+fundings file = flatMap (fundingsOf file) (entries (fields file))
+
+-- what a table says of a file: the count 65,535 says nothing, and any other how many of the table's numbers are those of the file
+pub record Fundings (file table : List ℕ) (count : ℕ) : Type 0 where
+  pub room : (count ≡ 65535 → ⊥) → count ≤ length table
+  pub listed : (count ≡ 65535 → ⊥) → take count table ≡ fundings file
+
+-- Going through them
+
+-- the set found so far with that of a call, where the call is one of the map
+unfoldable pub foundWith : (file m : List ℕ) → (found call number : ℕ) → ℕ
+foundWith file m found call number = cond (sameBytes (receiver (front (drop call file))) m) (joined file found number) found
+
+-- all calls of a table, two numbers each
+unfoldable pub foundThrough : (file m : List ℕ) → ℕ → List ℕ → ℕ
+foundThrough file m found [] = found
+foundThrough file m found (call ∷ []) = found
+foundThrough file m found (call ∷ number ∷ ks) = foundThrough file m (foundWith file m found call number) ks
+
+-- Listing them
+
+-- whether the call at a place funds some map
+unfoldable pub fundingCallAt : List ℕ → Field → ℕ → Bool
+fundingCallAt file entry k = isFundingCall entry (front (drop k file))
+
+-- its two numbers; up to 65,535 the place is itself
+unfoldable pub numbersAt : List ℕ → Field → ℕ → ℕ → List ℕ
+numbersAt file entry number k = cond (fundingCallAt file entry k) (k % 65536 ∷ number ∷ []) []
+
+-- the calls of an entry are the first `count` of a table, and n numbers were listed before: none is too large for the code
+pub record Calls (calls : List ℕ) (count number n : ℕ) : Type 0 where
+  pub room : count ≤ length calls
+  pub small : number < 65536
+  pub few : n + 2 * count ≤ 131072
+
+-- the entry stands in a file that passes question 1, where n numbers were listed before
+pub record Standing (file : List ℕ) (place n : ℕ) : Type 0 where
+  pub short : length file ≤ 32768
+  pub within : place ≤ length file
+  pub few : n ≤ 65536

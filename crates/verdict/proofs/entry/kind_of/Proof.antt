@@ -1,0 +1,21 @@
+-- Case by case.
+use borrow.Author.Needs.{needs}
+use Rattle.verdict.specs.Verdict.{kind}
+use Rattle.verdict.proofs.entry.kind_of.Statement.{statement}
+use Rattle.verdict.proofs.entry.kind_of.Tie as tie
+
+pub kind-of-spec : {M : Type 1} → statement M
+unfolding kind
+kind-of-spec =
+    tie.close
+    (tie.spec
+    (λ c. search needs)  -- enum-told
+    (λ c. search needs)  -- enum-told-2
+    (λ c. search needs)  -- enum-told-3
+    (λ c. search needs)  -- enum-told-4
+    (λ c. search needs)  -- enum-told-5
+    (λ c. cc)  -- returns
+    (λ c. cc)  -- returns-2
+    (λ c. cc)  -- returns-3
+    (λ c. cc)  -- returns-4
+    (λ c. cc))  -- returns-5

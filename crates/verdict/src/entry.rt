@@ -1,0 +1,251 @@
+// SPDX-License-Identifier: Apache-2.0 OR MIT
+// The verdict on an entry: questions 9 to 12, and then payout by payout.
+use super::calls::choose;
+use super::sheet::copy_sheet;
+use super::sheet::write_cover;
+use fields::bytes::skip;
+use fields::front::is_whole;
+use fields::table::number_at;
+use fields::tag::CALL;
+use matching::answer::Answer;
+use matching::answer::Cover;
+use matching::answer::Reason;
+use matching::answer::answer_payout;
+use matching::marks::all_free;
+use questions::model::nth_entry;
+use reserves::candidates::list_candidates;
+use walking::parameters::count_asset_parameters;
+use walking::walk::list_body;
+ghost use mathlib.Core.Path.{_≡_};
+ghost use mathlib.Core.Bool.{not};
+ghost use Prim.Native.Nat.{_+_, _-_, _*_, _≤_};
+ghost use lib.Dec.{leb};
+ghost use lib.ListN.{length, getD, drop};
+ghost use Rattle.fields.specs.Field.{fields};
+ghost use Rattle.walking.specs.Table.{placedAt};
+ghost use Rattle.matching.specs.Tables.{Tabled, entryOf};
+ghost use Rattle.matching.specs.Coded.{coverOf, codedReason};
+ghost use Rattle.verdict.specs.Verdict.{kind, index, matching, entryVerdict, written};
+ghost use Rattle.verdict.specs.Coded.{coded, rejectedBy, kindIn, indexIn, placedVerdict, Payouts, Calls};
+
+// A "no" to a question; a payout that nothing covers, and why; or the number of payouts, each of which has a cover.
+pub enum Verdict {
+    Refused { number: u8, place: usize },
+    Rejected { payout: usize, reason: Reason },
+    Accepted { payouts: usize },
+}
+
+// The kind of a cover.
+fn kind_of(cover: Cover) -> u8
+    ensures { λ r. ⌜ r ≡ kind (coverOf cover) ⌝ }
+{
+    match cover {
+        Cover::EqualDebit { index: _ } => 1,
+        Cover::EqualParameter { index: _ } => 2,
+        Cover::BoundingDebit { index: _ } => 3,
+        Cover::BoundingParameter { index: _ } => 4,
+        Cover::Reserve { index: _ } => 5,
+    }
+}
+
+// Its index.
+fn index_of(cover: Cover) -> usize
+    ensures { λ r. ⌜ r ≡ index (coverOf cover) ⌝ }
+{
+    match cover {
+        Cover::EqualDebit { index } => index,
+        Cover::EqualParameter { index } => index,
+        Cover::BoundingDebit { index } => index,
+        Cover::BoundingParameter { index } => index,
+        Cover::Reserve { index } => index,
+    }
+}
+
+// The kind of the cover in an answer; 0 in a rejection.
+fn kind_in(answer: Answer) -> u8
+    ensures { λ r. ⌜ r ≡ kindIn answer ⌝ }
+{
+    match answer {
+        Answer::Covered { cover } => kind_of(cover),
+        Answer::Rejected { reason: _ } => 0,
+    }
+}
+
+// Its index; 0 in a rejection.
+fn index_in(answer: Answer) -> usize
+    ensures { λ r. ⌜ r ≡ indexIn answer ⌝ }
+{
+    match answer {
+        Answer::Covered { cover } => index_of(cover),
+        Answer::Rejected { reason: _ } => 0,
+    }
+}
+
+// The verdict by the answer for a payout, which is a rejection.
+fn rejected_by(answer: Answer, payout: usize) -> Verdict
+    ensures { λ r. ⌜ r ≡ rejectedBy answer payout ⌝ }
+{
+    match answer {
+        Answer::Rejected { reason } => Verdict::Rejected {
+            payout: payout,
+            reason: reason,
+        },
+        Answer::Covered { cover: _ } => Verdict::Accepted { payouts: payout },
+    }
+}
+
+// The file from its k-th payout on, by the table of their places.
+fn nth_payout<'a>(file: &'a [u8], payouts: &[u16], k: usize) -> &'a [u8]
+    ensures { λ r. ⌜ now r ≡ drop (getD (now (payouts .entry)) k 0) (now (file .entry)) ⌝ }
+{
+    skip(file, number_at(payouts, k))
+}
+
+// The entry at a place of the file, payout by payout. The covers are written at the end, where each payout has one.
+fn match_payouts(
+    file: &[u8],
+    place: usize,
+    payouts: &[u16],
+    payout_count: usize,
+    debits: &[u16],
+    debit_count: usize,
+    total: usize,
+    covers: &mut [u8],
+) -> Verdict
+    requires tabled { ⌜ Tabled (now file) place (now debits) «debit_count» total ⌝ }
+    requires listed { ⌜ Payouts (now file) place (now payouts) «payout_count» ⌝ }
+    requires room { ⌜ 3 * «payout_count» ≤ length (now covers) ⌝ }
+    ensures answer { λ r. ⌜ r ≡ coded (matching (fields (now (file .entry))) (entryOf (now (file .entry)) place)) ⌝ }
+    ensures covers { λ r. ⌜ now (covers .exit) ≡ written (matching (fields (now (file .entry))) (entryOf (now (file .entry)) place)) (now (covers .entry)) ⌝ }
+{
+    let mut candidates = [0u16; 10923];
+    let candidate_count = list_candidates(file, place, &mut candidates);
+    let mut known = [0u16; 2979];
+    let mut sheet = [0u8; 192];
+    let mut marks = all_free();
+    let mut k = 0;
+    while k < payout_count {
+        let payout = nth_payout(file, payouts, k);
+        let answered = answer_payout(
+            file,
+            place,
+            debits,
+            debit_count,
+            total,
+            marks,
+            payout,
+            payouts,
+            payout_count,
+            k,
+            &candidates,
+            candidate_count,
+            &mut known,
+        );
+        let answer = answered.answer;
+        let kind = kind_in(answer);
+        if kind == 0 {
+            return rejected_by(answer, k);
+        }
+        let written = write_cover(kind, index_in(answer), &mut sheet, k);
+        let after = answered.marks;
+        marks = after;
+        k += 1;
+    }
+    copy_sheet(&sheet, 3 * payout_count, covers);
+    Verdict::Accepted {
+        payouts: payout_count,
+    }
+}
+
+// Whether there are more than 64 of two kinds together.
+fn are_many(a: usize, b: usize) -> bool
+    ensures { λ r. ⌜ r ≡ not (leb (a + b) 64) ⌝ }
+{
+    if 64 < a {
+        return true;
+    }
+    if 64 < b {
+        return true;
+    }
+    64 < a + b
+}
+
+// The place of a part of the file that goes on to its end.
+fn place_in(file: &[u8], part: &[u8]) -> usize
+    ensures { λ r. ⌜ r ≡ length (now (file .entry)) - length (now (part .entry)) ⌝ }
+{
+    if part.len() < file.len() {
+        return file.len() - part.len();
+    }
+    0
+}
+
+// Questions 11 and 12 of the entry at a place of the file, and then its payouts.
+fn backed_verdict(
+    file: &[u8],
+    place: usize,
+    calls: &[u16],
+    count: usize,
+    payouts: &[u16],
+    payout_count: usize,
+    covers: &mut [u8],
+) -> Verdict
+    requires called { ⌜ Calls (now file) place (now calls) count ⌝ }
+    requires listed { ⌜ Payouts (now file) place (now payouts) «payout_count» ⌝ }
+    ensures answer { λ r. ⌜ r ≡ coded (placedVerdict (fields (now (file .entry))) (placedAt (now (file .entry)) place) (length (now (covers .entry)))) ⌝ }
+    ensures covers { λ r. ⌜ now (covers .exit) ≡ written (placedVerdict (fields (now (file .entry))) (placedAt (now (file .entry)) place) (length (now (covers .entry)))) (now (covers .entry)) ⌝ }
+{
+    let mut debits = [0u16; 64];
+    let debit_count = choose(file, calls, count, false, &mut debits);
+    let parameter_count = count_asset_parameters(skip(file, place));
+    if are_many(debit_count, parameter_count) {
+        return Verdict::Refused {
+            number: 11,
+            place: place,
+        };
+    }
+    let total = debit_count + parameter_count;
+    if covers.len() < 3 * payout_count {
+        return Verdict::Refused {
+            number: 12,
+            place: 0,
+        };
+    }
+    match_payouts(
+        file,
+        place,
+        payouts,
+        payout_count,
+        &debits,
+        debit_count,
+        total,
+        covers,
+    )
+}
+
+// The verdict on the n-th entry of a file that passes question 1.
+pub fn entry_verdict(file: &[u8], n: usize, covers: &mut [u8]) -> Verdict
+    requires { ⌜ length (now file) ≤ 32768 ⌝ }
+    ensures answer { λ r. ⌜ r ≡ coded (entryVerdict (fields (now (file .entry))) n (length (now (covers .entry)))) ⌝ }
+    ensures covers { λ r. ⌜ now (covers .exit) ≡ written (entryVerdict (fields (now (file .entry))) n (length (now (covers .entry)))) (now (covers .entry)) ⌝ }
+{
+    let entry = nth_entry(file, n);
+    if !is_whole(entry) {
+        return Verdict::Refused {
+            number: 9,
+            place: 0,
+        };
+    }
+    let place = place_in(file, entry);
+    let mut calls = [0u16; 10923];
+    let count = list_body(file, place, CALL, &mut calls);
+    let mut payouts = [0u16; 65];
+    let payout_count = choose(file, &calls, count, true, &mut payouts);
+    if 64 < payout_count {
+        return Verdict::Refused {
+            number: 10,
+            place: number_at(&payouts, 64),
+        };
+    }
+    backed_verdict(file, place, &calls, count, &payouts, payout_count, covers)
+}

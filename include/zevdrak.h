@@ -1,0 +1,33 @@
+/* SPDX-License-Identifier: Apache-2.0 OR MIT */
+/* The payout checker for Quanta contracts, proved. Make the library with `rt staticlib export`: target/staticlib/libexport.a.
+   A slice is a pointer and then a length; where the length is 0 the pointer is not read, and must not be null all the same.
+   No function keeps what it is lent. Any bytes may be given. docs/USING.md says what each answer means. */
+#ifndef ZEVDRAK_H
+#define ZEVDRAK_H
+
+#include <stdbool.h>
+#include <stddef.h>
+#include <stdint.h>
+
+/* Bytes of covers that are enough for every entry, and bytes that are enough for every listing. */
+#define ZEVDRAK_COVERS 192
+#define ZEVDRAK_LISTING 65536
+
+/* What zevdrak_verdict answers. */
+#define ZEVDRAK_ACCEPTED 0 /* first: the number of payouts; 3 bytes for each are written into the covers */
+#define ZEVDRAK_REJECTED 1 /* first: the payout that has no cover, counted from 0; second: the reason, 1 to 6 */
+#define ZEVDRAK_REFUSED 2  /* first: the question that said no, 1 to 12; second: the place in the file */
+
+/* The verdict on an entry, counted from 0, of a model file. Only an accepted entry's covers are written, 3 bytes a payout
+   (kind, then the index, most significant byte first); all other bytes of the covers stay as they are. */
+uint8_t zevdrak_verdict(const uint8_t *file, size_t file_length, size_t entry, uint8_t *covers, size_t covers_length,
+                        size_t *first, size_t *second);
+
+/* The listing of a model file, as the program `payouts` prints it, written into the front of out; the answer is how many
+   bytes of out it takes. */
+size_t zevdrak_listing(const uint8_t *file, size_t file_length, uint8_t *out, size_t out_length);
+
+/* Questions 1 to 8 of a file: 0 if all pass, else the number of the first "no", whose place is then written. */
+uint8_t zevdrak_check_file(const uint8_t *file, size_t file_length, size_t *place);
+
+#endif
