@@ -2,18 +2,79 @@
 use bounds::bounded_by_backing;
 use equality::expr_eq;
 use fields::bytes::same_bytes;
+use matching::answer::Reason;
 use questions::check::Answer;
 use questions::file::check_file;
+use reserves::reserve::reserve_token;
 use tokens::token::admitted_inflow_token;
 use tokens::token::ledger_funding_token;
+use verdict::entry::Verdict;
+use verdict::file::file_verdict;
 ghost use mathlib.Core.Path.{_≡_};
+ghost use lib.ListN.{length};
 ghost use Rattle.fields.specs.Field.{fields, front};
 ghost use Rattle.questions.specs.Questions.{askFile};
 ghost use Rattle.equality.specs.Equality.{exprEq};
 ghost use Rattle.bounds.specs.Bounds.{boundedByBacking};
 ghost use Rattle.tokens.specs.Tokens.{admittedInflowToken, fundingToken};
+ghost use Rattle.matching.specs.Coded.{reasonOf};
+ghost use Rattle.reserves.specs.Reserves.{reserveToken};
+ghost use Rattle.verdict.specs.Verdict.{verdict, written, reason};
+ghost use Rattle.verdict.specs.Claim.{Demand3};
+ghost use Rattle.export.specs.Answer.{outcome, firstOf, secondOf};
 ghost use Rattle.export.specs.Refusal.{questionIn, placeIn};
 ghost use Rattle.export.specs.Token.{isTokenOf};
+
+// The number of a reason.
+fn number_of(why: Reason) -> usize
+    ensures { λ r. ⌜ r ≡ reason (reasonOf why) ⌝ }
+{
+    match why {
+        Reason::SplitWithoutAmount => 1,
+        Reason::ConflictAtEqual => 2,
+        Reason::AmountTaken => 3,
+        Reason::ConflictAtBounding => 4,
+        Reason::NoReserve => 5,
+        Reason::ReserveUsed => 6,
+    }
+}
+
+// The verdict on an entry of a file, counted from 0: 0 accepted, 1 rejected, 2 refused, with two numbers beside (specs/Answer).
+// Where it is accepted its covers are written in front of the lent ones. Demand 2 is `answer`, `first`, `second` and `covers`:
+// the verdict and the bytes are those of the rules. Demand 3 is `backed`: what the rules' verdict and these bytes say of the
+// entry's payouts.
+#[no_mangle]
+pub extern "C" fn zevdrak_verdict(
+    file: &[u8],
+    entry: usize,
+    covers: &mut [u8],
+    first: &mut usize,
+    second: &mut usize,
+) -> u8
+    ensures answer { λ r. ⌜ r ≡ outcome (verdict (now (file .entry)) entry (length (now (covers .entry)))) ⌝ }
+    ensures first { λ r. ⌜ now (first .exit) ≡ firstOf (verdict (now (file .entry)) entry (length (now (covers .entry)))) ⌝ }
+    ensures second { λ r. ⌜ now (second .exit) ≡ secondOf (verdict (now (file .entry)) entry (length (now (covers .entry)))) ⌝ }
+    ensures covers { λ r. ⌜ now (covers .exit) ≡ written (verdict (now (file .entry)) entry (length (now (covers .entry)))) (now (covers .entry)) ⌝ }
+    ensures backed { λ r. ⌜ Demand3 (now (file .entry)) entry (now (covers .entry)) (verdict (now (file .entry)) entry (length (now (covers .entry)))) (now (covers .exit)) ⌝ }
+{
+    match file_verdict(file, entry, covers) {
+        Verdict::Accepted { payouts } => {
+            *first = payouts;
+            *second = 0;
+            0
+        }
+        Verdict::Rejected { payout, reason } => {
+            *first = payout;
+            *second = number_of(reason);
+            1
+        }
+        Verdict::Refused { number, place } => {
+            *first = number as usize;
+            *second = place;
+            2
+        }
+    }
+}
 
 // Questions 1 to 8 of a file: 0 if all pass, else the number of the first "no", whose place is then written.
 #[no_mangle]
@@ -69,4 +130,15 @@ pub extern "C" fn zevdrak_is_ledger_funding_token(file: &[u8], map: &[u8], token
         return false;
     }
     same_bytes(ledger_funding_token(file, map), token)
+}
+
+// Whether it is the token that the state field of that name holds.
+#[no_mangle]
+pub extern "C" fn zevdrak_is_reserve_token(file: &[u8], field: &[u8], token: &[u8]) -> bool
+    ensures { λ r. ⌜ r ≡ isTokenOf (now (file .entry)) (reserveToken (fields (now (file .entry))) (now (field .entry))) (now (token .entry)) ⌝ }
+{
+    if 32768 < file.len() {
+        return false;
+    }
+    same_bytes(reserve_token(file, field), token)
 }

@@ -97,7 +97,7 @@ asked true n p e = refl
 asked false n p e = cc
 
 module _ (file : List ℕ) (f : askFile file ≡ passes) where
-  short-file : length file ≤ 32768
+  pub short-file : length file ≤ 32768
   unfolding askFile askForm
   short-file = leb-true (length file) 32768 (asked (leb (length file) 32768) 1 0 (earlier-asked _ _ (earlier-asked (askForm file) _ f)))
 

@@ -24,6 +24,8 @@ struct Counts {
     admitting: u64,
     maps: u64,
     funded: u64,
+    fields: u64,
+    holding: u64,
 }
 
 fn main() -> ExitCode {
@@ -41,7 +43,7 @@ fn main() -> ExitCode {
         }
     }
     println!(
-        "no difference on {} files: {} refused; {} pairs of expressions, {} equal, {} bounded; {} entries that admit a token; {} maps, {} with one funding token",
+        "no difference on {} files: {} refused; {} pairs of expressions, {} equal, {} bounded; {} entries that admit a token; {} maps, {} with one funding token; {} state fields, {} that hold one",
         counts.files,
         counts.refused,
         counts.pairs,
@@ -49,7 +51,9 @@ fn main() -> ExitCode {
         counts.bounded,
         counts.admitting,
         counts.maps,
-        counts.funded
+        counts.funded,
+        counts.fields,
+        counts.holding
     );
     ExitCode::SUCCESS
 }
@@ -83,7 +87,23 @@ fn compare(file: &[u8], counts: &mut Counts) -> Result<(), String> {
         compare_pairs(file, &expressions, counts)?;
     }
     maps.iter()
-        .try_for_each(|map| compare_funding(file, &model, map, counts))
+        .try_for_each(|map| compare_funding(file, &model, map, counts))?;
+    model
+        .state
+        .keys()
+        .try_for_each(|field| compare_held(file, &model, field, counts))
+}
+
+/// The token that a state field holds.
+fn compare_held(file: &[u8], model: &Model, field: &str, counts: &mut Counts) -> Result<(), String> {
+    let token = oracle::held_token(model, field);
+    counts.fields += 1;
+    counts.holding += u64::from(token.is_some());
+    let expected = token.as_deref().unwrap_or_default();
+    match zevdrak::is_reserve_token(file, field.as_bytes(), expected.as_bytes()) {
+        true => Ok(()),
+        false => Err(format!("held token: {token:?} expected of {field}")),
+    }
 }
 
 /// The name on which a member is called.

@@ -33,6 +33,14 @@ extern "C" {
         token: *const u8,
         token_length: usize,
     ) -> bool;
+    pub fn zevdrak_is_reserve_token(
+        file: *const u8,
+        file_length: usize,
+        field: *const u8,
+        field_length: usize,
+        token: *const u8,
+        token_length: usize,
+    ) -> bool;
     pub fn zevdrak_is_ledger_funding_token(
         file: *const u8,
         file_length: usize,

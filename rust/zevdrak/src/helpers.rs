@@ -58,3 +58,17 @@ pub fn is_ledger_funding_token(file: &[u8], map: &[u8], token: &[u8]) -> bool {
         )
     }
 }
+
+/// Whether it is the token that the state field of that name holds.
+pub fn is_reserve_token(file: &[u8], field: &[u8], token: &[u8]) -> bool {
+    unsafe {
+        c::zevdrak_is_reserve_token(
+            file.as_ptr(),
+            file.len(),
+            field.as_ptr(),
+            field.len(),
+            token.as_ptr(),
+            token.len(),
+        )
+    }
+}

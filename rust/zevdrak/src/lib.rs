@@ -25,6 +25,7 @@ mod helpers;
 
 pub use helpers::{
     bounded_by_backing, check_file, expr_eq, is_admitted_inflow_token, is_ledger_funding_token,
+    is_reserve_token,
 };
 
 /// Bytes of covers that are enough for every entry: 3 for each of 64 payouts.
@@ -139,16 +140,3 @@ pub fn covers(bytes: &[u8]) -> Vec<Cover> {
     };
     bytes.chunks_exact(3).filter_map(cover).collect()
 }
-
-/// The listing of a model file, as the program `payouts` prints it.
-pub fn listing(file: &[u8]) -> Vec<u8> {
-    let mut buffer = vec![0; LISTING];
-    let length = unsafe {
-        c::zevdrak_listing(file.as_ptr(), file.len(), buffer.as_mut_ptr(), buffer.len())
-    };
-    buffer.truncate(length);
-    buffer
-}
-
-/// Bytes that are enough for the listing of every file.
-const LISTING: usize = 65_536;
