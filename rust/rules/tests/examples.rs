@@ -10,7 +10,7 @@ fn examples() -> PathBuf {
 }
 
 fn model(name: &str) -> Vec<u8> {
-    let text = fs::read_to_string(examples().join(name).with_extension("model")).expect(name);
+    let text = fs::read_to_string(examples().join(name).with_extension("text")).expect(name);
     model_text::to_bytes(&text).expect(name)
 }
 
@@ -25,7 +25,7 @@ fn every_example_has_its_listing() {
         let path = item.expect("an example").path();
         if path
             .extension()
-            .is_some_and(|extension| extension == "model")
+            .is_some_and(|extension| extension == "text")
         {
             names.push(path.file_stem().unwrap().to_string_lossy().into_owned());
         }

@@ -2,9 +2,12 @@
 //! The widest and the deepest files run on a stack of 64 KB: a list is gone
 //! through by a loop, and only a field inside a field is a call.
 
-use zevdrak::{bounded_by_backing, check_file, expr_eq, Refusal};
+use zevdrak::{bounded_by_backing, check_file, expr_eq, verdict, Refusal, Verdict, COVERS};
 
 const STACK: usize = 64 * 1024;
+/// The verdict has tables of its own: the calls of a body, the guards of an
+/// entry, the calls that fund a map.
+const VERDICT_STACK: usize = 256 * 1024;
 const NOT: u8 = 0x38;
 const CALL: u8 = 0x3B;
 const CALLER: [u8; 3] = [0x34, 0, 0];
@@ -26,8 +29,24 @@ fn nots(depth: usize) -> Vec<u8> {
 }
 
 fn on_a_small_stack(work: impl FnOnce() + Send + 'static) {
-    let thread = std::thread::Builder::new().stack_size(STACK).spawn(work);
+    on_a_stack(STACK, work);
+}
+
+fn on_a_stack(size: usize, work: impl FnOnce() + Send + 'static) {
+    let thread = std::thread::Builder::new().stack_size(size).spawn(work);
     thread.unwrap().join().unwrap();
+}
+
+/// The exchange's entries use everything that the verdict has: debits,
+/// parameters, reserves, tokens that guards and maps tell.
+#[test]
+fn verdicts_of_an_exchange() {
+    on_a_stack(VERDICT_STACK, || {
+        let file = include_bytes!("../../../examples/exchange.model");
+        let mut covers = [0; COVERS];
+        let accepted = |entry: &usize| matches!(verdict(file, *entry, &mut covers), Verdict::Accepted { .. });
+        assert!((0..64).filter(accepted).count() > 1);
+    });
 }
 
 #[test]
