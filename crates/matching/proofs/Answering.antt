@@ -180,7 +180,7 @@ module _ (model : Fields) (entry : Field) (marks : Marks) (s : List ℕ) (q : Tr
       ∙ tried-open (beforeReserve marks (front s)) q g (byReserve model entry marks (front s)) h))
 
 module _ (file : List ℕ) (place : ℕ) (table : List ℕ) (count total : ℕ) (asked : List ℕ) (askedCount k : ℕ) (candidates : List ℕ) (candidateCount : ℕ)
-    (known s : List ℕ) (w : Prepared file place table count total asked askedCount k candidates candidateCount known s) (m : Coded)
+    (fundings : List ℕ) (fundingsCount : ℕ) (known s : List ℕ) (w : Prepared file place table count total asked askedCount k candidates candidateCount fundings fundingsCount known s) (m : Coded)
     (x : List ℕ) (e : front x ≡ payoutAmount (front s)) where
   abbrev model : Fields
   model = fields file

@@ -207,7 +207,7 @@ module _ (file : List ℕ) (place : ℕ) (table : List ℕ) (count total : ℕ) 
 
 -- and for all marks that the code's stand for
 module _ (file : List ℕ) (place : ℕ) (table : List ℕ) (count total : ℕ) (asked : List ℕ) (askedCount k : ℕ) (candidates : List ℕ) (candidateCount : ℕ)
-    (known s : List ℕ) (w : Prepared file place table count total asked askedCount k candidates candidateCount known s) (m : Coded) (room : m .uses < 64)
+    (fundings : List ℕ) (fundingsCount : ℕ) (known s : List ℕ) (w : Prepared file place table count total asked askedCount k candidates candidateCount fundings fundingsCount known s) (m : Coded) (room : m .uses < 64)
     (a : Answer) (e : a ≡ coded (answer (fields file) (entryOf file place) (marksOf (backingsOf file place) m) (front s)))
     (r : Answered) (f : r .answer ≡ a) (g : r .marks ≡ afterAnswer m count a) where
   pub answers-all : AnswersFor (fields file) (entryOf file place) (backingsOf file place) m (front s) r

@@ -16,6 +16,7 @@ ghost use mathlib.Core.Path.{_≡_};
 ghost use Prim.Native.Nat.{_+_, _≤_, _<_};
 ghost use Rattle.fields.specs.Lists.{any};
 ghost use Rattle.fields.specs.Field.{fields, front};
+ghost use Rattle.tokens.specs.Fundings.{Fundings};
 ghost use Rattle.reserves.specs.Holding.{Right};
 ghost use Rattle.matching.specs.Matching.{byReserve, answer};
 ghost use Rattle.matching.specs.Tables.{Tabled, entryOf, backingsOf};
@@ -109,15 +110,18 @@ fn by_backing(
     marks: Marks,
     s: &[u8],
     bounding: bool,
+    fundings: &[u16],
+    fundings_count: usize,
 ) -> Tried
-    requires { ⌜ Tabled (now file) place (now debits) count total ⌝ }
+    requires tabled { ⌜ Tabled (now file) place (now debits) count total ⌝ }
+    requires fundings { ⌜ Fundings (now file) (now fundings) «fundings_count» ⌝ }
     ensures { λ r. ⌜ r ≡ tried (byBacking bounding (marksOf (backingsOf (now (file .entry)) place) marks) (front (now (s .entry)))) ⌝ }
 {
     let i = first_backing(file, place, debits, count, total, marks, true, s, bounding);
     if total <= i {
         return Tried::Open;
     }
-    if tokens_conflict(file, place, debits, count, i, s) {
+    if tokens_conflict(file, place, debits, count, i, s, fundings, fundings_count) {
         return Tried::Decided {
             answer: Answer::Rejected {
                 reason: conflict_reason(bounding),
@@ -166,21 +170,46 @@ fn before_reserve(
     total: usize,
     marks: Marks,
     s: &[u8],
+    fundings: &[u16],
+    fundings_count: usize,
 ) -> Tried
-    requires { ⌜ Tabled (now file) place (now debits) count total ⌝ }
+    requires tabled { ⌜ Tabled (now file) place (now debits) count total ⌝ }
+    requires fundings { ⌜ Fundings (now file) (now fundings) «fundings_count» ⌝ }
     ensures { λ r. ⌜ r ≡ tried (beforeReserve (marksOf (backingsOf (now (file .entry)) place) marks) (front (now (s .entry)))) ⌝ }
 {
     if !is_present(payout_amount(s)) {
         return rejected(Reason::SplitWithoutAmount);
     }
-    let equal = by_backing(file, place, debits, count, total, marks, s, false);
+    let equal = by_backing(
+        file,
+        place,
+        debits,
+        count,
+        total,
+        marks,
+        s,
+        false,
+        fundings,
+        fundings_count,
+    );
     if let Tried::Decided { answer } = equal {
         return Tried::Decided { answer: answer };
     }
     if is_taken(file, place, debits, count, total, marks, s) {
         return rejected(Reason::AmountTaken);
     }
-    by_backing(file, place, debits, count, total, marks, s, true)
+    by_backing(
+        file,
+        place,
+        debits,
+        count,
+        total,
+        marks,
+        s,
+        true,
+        fundings,
+        fundings_count,
+    )
 }
 
 // The first covering reserve, rejecting if there is none or it is used.
@@ -197,9 +226,11 @@ fn by_reserve(
     k: usize,
     candidates: &[u16],
     candidate_count: usize,
+    fundings: &[u16],
+    fundings_count: usize,
     known: &mut [u16],
 ) -> Answer
-    requires { ⌜ Prepared (now file) place (now debits) count total (now asked) «asked_count» k (now candidates) «candidate_count» (now known) (now s) ⌝ }
+    requires { ⌜ Prepared (now file) place (now debits) count total (now asked) «asked_count» k (now candidates) «candidate_count» (now fundings) «fundings_count» (now known) (now s) ⌝ }
     ensures answers { λ r. ⌜ r ≡ coded (byReserve (fields (now (file .entry))) (entryOf (now (file .entry)) place) (marksOf (backingsOf (now (file .entry)) place) marks) (front (now (s .entry)))) ⌝ }
     ensures right { λ r. ⌜ Right (now (file .entry)) (now (asked .entry)) «asked_count» (now (known .exit)) ⌝ }
 {
@@ -213,6 +244,8 @@ fn by_reserve(
         k,
         candidates,
         candidate_count,
+        fundings,
+        fundings_count,
         known,
     ) {
         Reserve::Nothing => Answer::Rejected {
@@ -250,13 +283,25 @@ fn cover_payout(
     k: usize,
     candidates: &[u16],
     candidate_count: usize,
+    fundings: &[u16],
+    fundings_count: usize,
     known: &mut [u16],
 ) -> Answer
-    requires { ⌜ Prepared (now file) place (now debits) count total (now asked) «asked_count» k (now candidates) «candidate_count» (now known) (now s) ⌝ }
+    requires { ⌜ Prepared (now file) place (now debits) count total (now asked) «asked_count» k (now candidates) «candidate_count» (now fundings) «fundings_count» (now known) (now s) ⌝ }
     ensures answers { λ r. ⌜ r ≡ coded (answer (fields (now (file .entry))) (entryOf (now (file .entry)) place) (marksOf (backingsOf (now (file .entry)) place) marks) (front (now (s .entry)))) ⌝ }
     ensures right { λ r. ⌜ Right (now (file .entry)) (now (asked .entry)) «asked_count» (now (known .exit)) ⌝ }
 {
-    let found = before_reserve(file, place, debits, count, total, marks, s);
+    let found = before_reserve(
+        file,
+        place,
+        debits,
+        count,
+        total,
+        marks,
+        s,
+        fundings,
+        fundings_count,
+    );
     if let Tried::Decided { answer } = found {
         return answer;
     }
@@ -273,6 +318,8 @@ fn cover_payout(
         k,
         candidates,
         candidate_count,
+        fundings,
+        fundings_count,
         known,
     )
 }
@@ -308,9 +355,11 @@ pub fn answer_payout(
     k: usize,
     candidates: &[u16],
     candidate_count: usize,
+    fundings: &[u16],
+    fundings_count: usize,
     known: &mut [u16],
 ) -> Answered
-    requires prepared { ⌜ Prepared (now file) place (now debits) count total (now asked) «asked_count» k (now candidates) «candidate_count» (now known) (now s) ⌝ }
+    requires prepared { ⌜ Prepared (now file) place (now debits) count total (now asked) «asked_count» k (now candidates) «candidate_count» (now fundings) «fundings_count» (now known) (now s) ⌝ }
     requires room { ⌜ marks .uses < 64 ⌝ }
     ensures answers { λ r. ⌜ AnswersFor (fields (now (file .entry))) (entryOf (now (file .entry)) place) (backingsOf (now (file .entry)) place) marks (front (now (s .entry))) r ⌝ }
     ensures uses { λ r. ⌜ r .marks .uses ≤ marks .uses + 1 ⌝ }
@@ -329,6 +378,8 @@ pub fn answer_payout(
         k,
         candidates,
         candidate_count,
+        fundings,
+        fundings_count,
         known,
     );
     with_marks(marks, count, answer)

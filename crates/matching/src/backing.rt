@@ -7,9 +7,9 @@ use fields::bytes::same_bytes;
 use fields::bytes::skip;
 use fields::front::part_of;
 use fields::table::number_at;
+use tokens::ledger::funding_token;
 use tokens::set::tokens_differ;
 use tokens::token::admitted_inflow_token;
-use tokens::token::ledger_funding_token;
 use walking::parameters::asset_parameter;
 use walking::peel::peel;
 use walking::shape::ident;
@@ -26,6 +26,7 @@ ghost use Rattle.equality.specs.Equality.{exprEq};
 ghost use Rattle.bounds.specs.Bounds.{boundedByBacking};
 ghost use Rattle.bounds.specs.Backing.{backingField};
 ghost use Rattle.tokens.specs.Tokens.{differ};
+ghost use Rattle.tokens.specs.Fundings.{Fundings};
 ghost use Rattle.matching.specs.Matching.{payoutToken, payoutAmount};
 ghost use Rattle.matching.specs.Tables.{amountAt, tokenAt};
 
@@ -112,12 +113,16 @@ pub fn backing_token<'a>(
     debits: &[u16],
     count: usize,
     i: usize,
+    fundings: &[u16],
+    fundings_count: usize,
 ) -> &'a [u8]
-    requires { ⌜ length (now file) ≤ 32768 ⌝ }
+    requires small { ⌜ length (now file) ≤ 32768 ⌝ }
+    requires fundings { ⌜ Fundings (now file) (now fundings) «fundings_count» ⌝ }
     ensures { λ r. ⌜ now r ≡ tokenAt (now (file .entry)) place (now (debits .entry)) count i ⌝ }
 {
     if i < count {
-        return ledger_funding_token(file, receiver(skip(file, number_at(debits, i))));
+        let debit = skip(file, number_at(debits, i));
+        return funding_token(file, receiver(debit), fundings, fundings_count);
     }
     admitted_inflow_token(skip(file, place))
 }
@@ -130,12 +135,15 @@ pub fn tokens_conflict(
     count: usize,
     i: usize,
     s: &[u8],
+    fundings: &[u16],
+    fundings_count: usize,
 ) -> bool
-    requires { ⌜ length (now file) ≤ 32768 ⌝ }
+    requires small { ⌜ length (now file) ≤ 32768 ⌝ }
+    requires fundings { ⌜ Fundings (now file) (now fundings) «fundings_count» ⌝ }
     ensures { λ r. ⌜ r ≡ differ (tokenAt (now (file .entry)) place (now (debits .entry)) count i) (payoutToken (front (now (s .entry)))) ⌝ }
 {
     tokens_differ(
-        backing_token(file, place, debits, count, i),
+        backing_token(file, place, debits, count, i, fundings, fundings_count),
         payout_token(s),
     )
 }

@@ -15,6 +15,7 @@ use Rattle.questions.specs.Model.{body}
 use Rattle.walking.specs.Walking.{present, receiver, bodyExprs}
 use Rattle.walking.specs.Table.{placedAt, placesOf}
 use Rattle.tokens.specs.Tokens.{single, isInflow}
+use Rattle.tokens.specs.Fundings.{Fundings}
 use Rattle.reserves.specs.Reserves.{guardTokens, only, raiseToken, raiseTokens}
 use Rattle.reserves.specs.Raising.{CallsOf, nameless, isRaise, raisedBy, raising, raisesFrom, raisingFrom, raiseDebit, inflowToken, tokenOr, bars, remembered}
 use Rattle.reserves.proofs.Called.{calls-listed}
@@ -40,8 +41,9 @@ pub record Entries (file name found last entry : List ℕ) : Type 0 where
   pub kept : remembered (fields file) last found ≡ found
   pub left : held found (flatMap (tokensIn (fields file) name) (raisingFrom name entry)) ≡ wanted file name
 
-pub record Raises (file name entry calls : List ℕ) (count : ℕ) (guarded : List ℕ) (noName : Bool) (found last t : List ℕ) : Type 0 where
+pub record Raises (file name fundings : List ℕ) (fundingsCount : ℕ) (entry calls : List ℕ) (count : ℕ) (guarded : List ℕ) (noName : Bool) (found last t : List ℕ) : Type 0 where
   pub small : length file ≤ 32768
+  pub funded : Fundings file fundings fundingsCount
   pub table : CallsOf entry calls count
   pub guard : guarded ≡ only (guardTokens (front entry))
   pub names : noName ≡ nameless (front entry)
@@ -62,13 +64,14 @@ module _ (file name found last entry : List ℕ) (i : Entries file name found la
   unfolding flatMap
   entries-end w = held-alone found ∙ (rw w at (i .left))
 
-  pub raises-all : length file ≤ 32768 → whole entry ≡ true → (zeros calls : List ℕ) (count : ℕ) → Listed (placesOf Call (bodyExprs (placedAt entry 0))) zeros 0 calls count →
+  pub raises-all : length file ≤ 32768 → (fundings : List ℕ) (fundingsCount : ℕ) → Fundings file fundings fundingsCount → whole entry ≡ true → (zeros calls : List ℕ) (count : ℕ) → Listed (placesOf Call (bodyExprs (placedAt entry 0))) zeros 0 calls count →
       length zeros ≡ 10923 → length calls ≡ length zeros → (guarded : List ℕ) → guarded ≡ only (guardTokens (front entry)) → (noName : Bool) → noName ≡ nameless (front entry) →
       (p t : List ℕ) → fields p ≡ parts (front entry) → filter (isRaise name) (fieldsFrom Guard ExpressionStatement (fields p)) ≡ raisesFrom name t →
-      Raises file name entry calls count guarded noName found last t
+      Raises file name fundings fundingsCount entry calls count guarded noName found last t
   unfolding flatMap tokensIn body
-  raises-all h w zeros calls count l k c guarded g noName n p t e f = record {
+  raises-all h fundings fundingsCount m w zeros calls count l k c guarded g noName n p t e f = record {
     small = h;
+    funded = m;
     table = calls-listed entry (omega (arith, i .within)) zeros calls count l k c;
     guard = g;
     names = n;
@@ -76,8 +79,8 @@ module _ (file name found last entry : List ℕ) (i : Entries file name found la
     left = rw (← f, e) (rw w at (i .left));
   }
 
-module _ (file name entry calls : List ℕ) (count : ℕ) (guarded : List ℕ) (noName : Bool) (found last t : List ℕ)
-    (i : Raises file name entry calls count guarded noName found last t) where
+module _ (file name fundings : List ℕ) (fundingsCount : ℕ) (entry calls : List ℕ) (count : ℕ) (guarded : List ℕ) (noName : Bool) (found last t : List ℕ)
+    (i : Raises file name fundings fundingsCount entry calls count guarded noName found last t) where
   module _ (w : whole t ≡ true) (amount : List ℕ) (a : front amount ≡ raisedBy name (front t)) (inflow : Bool) (n : inflow ≡ isInflow (front entry) (front amount))
       (debit : List ℕ) (d : front debit ≡ raiseDebit inflow (front entry) (front amount))
       (admitted : List ℕ) (m : admitted ≡ inflowToken inflow guarded (front entry) (front amount)) (token : List ℕ) (k : token ≡ tokenOr (fields file) (front debit) admitted)
@@ -105,9 +108,10 @@ module _ (file name entry calls : List ℕ) (count : ℕ) (guarded : List ℕ) (
         go false e = rw (g, d, raise-none (front amount) inflow (front entry) (rw d at e))
 
     pub raises-on : b ≡ false → (x : List ℕ) → x ≡ receiver (front debit) → (u : List ℕ) →
-        filter (isRaise name) (fieldsFrom Guard ExpressionStatement (fields (after t))) ≡ raisesFrom name u → Raises file name entry calls count guarded noName token x u
+        filter (isRaise name) (fieldsFrom Guard ExpressionStatement (fields (after t))) ≡ raisesFrom name u → Raises file name fundings fundingsCount entry calls count guarded noName token x u
     raises-on h x g u j = record {
       small = i .small;
+      funded = i .funded;
       table = i .table;
       guard = i .guard;
       names = i .names;

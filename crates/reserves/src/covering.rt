@@ -11,6 +11,7 @@ ghost use mathlib.Core.Path.{_≡_};
 ghost use Prim.Native.Nat.{_≤_, _<_};
 ghost use lib.ListN.{length, take, drop};
 ghost use Rattle.fields.specs.Field.{fields, front};
+ghost use Rattle.tokens.specs.Fundings.{Fundings};
 ghost use Rattle.reserves.specs.Reserves.{reserveBoundingPayout};
 ghost use Rattle.reserves.specs.Candidates.{Candidates};
 ghost use Rattle.reserves.specs.Holding.{askedToken, Right};
@@ -58,9 +59,12 @@ pub fn reserve_bounding_payout(
     k: usize,
     candidates: &[u16],
     candidate_count: usize,
+    fundings: &[u16],
+    fundings_count: usize,
     known: &mut [u16],
 ) -> Reserve
     requires short { ⌜ length (now file) ≤ 32768 ⌝ }
+    requires fundings { ⌜ Fundings (now file) (now fundings) «fundings_count» ⌝ }
     requires amount { ⌜ length (now amount) ≤ 32768 ⌝ }
     requires among { ⌜ k < count ⌝ }
     requires listed { ⌜ Candidates (now file) place (now candidates) «candidate_count» ⌝ }
@@ -77,7 +81,16 @@ pub fn reserve_bounding_payout(
     }
     while i < candidate_count {
         let index = number_at(candidates, i + 1);
-        if holds_token(file, index, asked, count, k, known) {
+        if holds_token(
+            file,
+            index,
+            asked,
+            count,
+            k,
+            fundings,
+            fundings_count,
+            known,
+        ) {
             return Reserve::Covers { index: index };
         }
         let next = first_equal(file, amount, candidates, candidate_count, i + 2);

@@ -14,6 +14,7 @@ use walking::shape::ident;
 ghost use mathlib.Core.Path.{_≡_};
 ghost use Prim.Native.Nat.{_≤_, _<_};
 ghost use lib.ListN.{length, set};
+ghost use Rattle.tokens.specs.Fundings.{Fundings};
 ghost use Rattle.reserves.specs.Holding.{askedToken, stateName, isToken, holdsToken, Right, Numbered};
 
 // The name of the state field of that number; no bytes where there is none.
@@ -76,14 +77,17 @@ fn work_out(
     asked: &[u16],
     count: usize,
     k: usize,
+    fundings: &[u16],
+    fundings_count: usize,
     known: &mut [u16],
 ) -> bool
     requires short { ⌜ length (now file) ≤ 32768 ⌝ }
+    requires fundings { ⌜ Fundings (now file) (now fundings) «fundings_count» ⌝ }
     requires right { ⌜ Right (now file) (now asked) count (now known) ⌝ }
     ensures holds { λ r. ⌜ r ≡ holdsToken (now (file .entry)) (now (asked .entry)) index k ⌝ }
     ensures right { λ r. ⌜ Right (now (file .entry)) (now (asked .entry)) count (now (known .exit)) ⌝ }
 {
-    let token = reserve_token(file, state_name(file, index));
+    let token = reserve_token(file, state_name(file, index), fundings, fundings_count);
     let number = number_for(file, asked, count, token);
     let written = remember(number, known, index);
     is_token(token, asked_token(file, asked, k))
@@ -96,9 +100,12 @@ pub fn holds_token(
     asked: &[u16],
     count: usize,
     k: usize,
+    fundings: &[u16],
+    fundings_count: usize,
     known: &mut [u16],
 ) -> bool
     requires short { ⌜ length (now file) ≤ 32768 ⌝ }
+    requires fundings { ⌜ Fundings (now file) (now fundings) «fundings_count» ⌝ }
     requires among { ⌜ k < count ⌝ }
     requires right { ⌜ Right (now file) (now asked) count (now known) ⌝ }
     ensures holds { λ r. ⌜ r ≡ holdsToken (now (file .entry)) (now (asked .entry)) index k ⌝ }
@@ -106,7 +113,16 @@ pub fn holds_token(
 {
     let number = number_at(known, index);
     if number == 0 {
-        return work_out(file, index, asked, count, k, known);
+        return work_out(
+            file,
+            index,
+            asked,
+            count,
+            k,
+            fundings,
+            fundings_count,
+            known,
+        );
     }
     if number == 1 {
         return false;

@@ -14,8 +14,8 @@ use fields::front::after_front;
 use fields::front::is_whole;
 use fields::front::parts_of;
 use fields::tag::CALL;
+use tokens::ledger::funding_token;
 use tokens::set::tokens_differ;
-use tokens::token::ledger_funding_token;
 use walking::backer::asset_amount_backer;
 use walking::parameters::has_asset_parameter;
 use walking::shape::is_present;
@@ -26,6 +26,7 @@ ghost use Prim.Native.Nat.{_≤_};
 ghost use lib.ListN.{length};
 ghost use Rattle.fields.specs.Field.{fields, front};
 ghost use Rattle.tokens.specs.Tokens.{single, isInflow, fundingToken};
+ghost use Rattle.tokens.specs.Fundings.{Fundings};
 ghost use Rattle.reserves.specs.Reserves.{raiseTokens, reserveToken};
 ghost use Rattle.reserves.specs.Raising.{CallsOf, nameless, raiseDebit, inflowToken, tokenOr, bars, remembered};
 
@@ -88,16 +89,25 @@ fn raise_debit<'a>(
     first_debit(entry, amount, calls, count)
 }
 
-// The funding token of a map. To look it up takes long: for the map that was looked up last it is the token found so far.
-fn map_token<'a>(file: &'a [u8], map: &[u8], last: &[u8], found: &'a [u8]) -> &'a [u8]
+// The funding token of a map, looked up among the calls that fund one. For the map that was looked up last it is the token
+// found so far.
+fn map_token<'a>(
+    file: &'a [u8],
+    map: &[u8],
+    last: &[u8],
+    found: &'a [u8],
+    fundings: &[u16],
+    fundings_count: usize,
+) -> &'a [u8]
     requires small { ⌜ length (now file) ≤ 32768 ⌝ }
+    requires fundings { ⌜ Fundings (now file) (now fundings) «fundings_count» ⌝ }
     requires kept { ⌜ remembered (fields (now file)) (now last) (now found) ≡ now found ⌝ }
     ensures { λ r. ⌜ now r ≡ fundingToken (fields (now (file .entry))) (now (map .entry)) ⌝ }
 {
     if (0 < last.len()) & same_bytes(last, map) {
         return found;
     }
-    ledger_funding_token(file, map)
+    funding_token(file, map, fundings, fundings_count)
 }
 
 // The token of a raise: that of the debit's map, or where there is no debit the one that was admitted.
@@ -107,15 +117,18 @@ fn raise_token<'a>(
     admitted: &'a [u8],
     last: &[u8],
     found: &'a [u8],
+    fundings: &[u16],
+    fundings_count: usize,
 ) -> &'a [u8]
     requires small { ⌜ length (now file) ≤ 32768 ⌝ }
+    requires fundings { ⌜ Fundings (now file) (now fundings) «fundings_count» ⌝ }
     requires kept { ⌜ remembered (fields (now file)) (now last) (now found) ≡ now found ⌝ }
     ensures { λ r. ⌜ now r ≡ tokenOr (fields (now (file .entry))) (front (now (debit .entry))) (now (admitted .entry)) ⌝ }
 {
     if !is_present(debit) {
         return admitted;
     }
-    map_token(file, receiver(debit), last, found)
+    map_token(file, receiver(debit), last, found, fundings, fundings_count)
 }
 
 // Whether the token of a raise bars the field: it is unknown, or another than the one found so far.
@@ -129,8 +142,14 @@ fn is_barred(found: &[u8], token: &[u8]) -> bool
 }
 
 // The one token of all raises; none where there is no raise or one bars the field.
-fn raises_token<'a>(file: &'a [u8], name: &[u8]) -> &'a [u8]
-    requires { ⌜ length (now file) ≤ 32768 ⌝ }
+fn raises_token<'a>(
+    file: &'a [u8],
+    name: &[u8],
+    fundings: &[u16],
+    fundings_count: usize,
+) -> &'a [u8]
+    requires small { ⌜ length (now file) ≤ 32768 ⌝ }
+    requires fundings { ⌜ Fundings (now file) (now fundings) «fundings_count» ⌝ }
     ensures { λ r. ⌜ now r ≡ single (raiseTokens (fields (now (file .entry))) (now (name .entry))) ⌝ }
 {
     let mut found = &file[..0];
@@ -150,7 +169,7 @@ fn raises_token<'a>(file: &'a [u8], name: &[u8]) -> &'a [u8]
             let inflow = comes_in(entry, amount, unnamed);
             let debit = raise_debit(entry, amount, inflow, &calls, count);
             let admitted = inflow_token(entry, amount, inflow, guarded, &calls, count);
-            let token = raise_token(file, debit, admitted, last, found);
+            let token = raise_token(file, debit, admitted, last, found, fundings, fundings_count);
             if is_barred(found, token) {
                 break 'search &file[..0];
             }
@@ -166,12 +185,18 @@ fn raises_token<'a>(file: &'a [u8], name: &[u8]) -> &'a [u8]
 }
 
 // The token that the state field of that name holds: it starts at zero, and all raises agree on one token; else none.
-pub fn reserve_token<'a>(file: &'a [u8], name: &[u8]) -> &'a [u8]
-    requires { ⌜ length (now file) ≤ 32768 ⌝ }
+pub fn reserve_token<'a>(
+    file: &'a [u8],
+    name: &[u8],
+    fundings: &[u16],
+    fundings_count: usize,
+) -> &'a [u8]
+    requires small { ⌜ length (now file) ≤ 32768 ⌝ }
+    requires fundings { ⌜ Fundings (now file) (now fundings) «fundings_count» ⌝ }
     ensures { λ r. ⌜ now r ≡ reserveToken (fields (now (file .entry))) (now (name .entry)) ⌝ }
 {
     if !starts_at_zero(file, name) {
         return &file[..0];
     }
-    raises_token(file, name)
+    raises_token(file, name, fundings, fundings_count)
 }

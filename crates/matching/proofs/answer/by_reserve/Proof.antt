@@ -11,7 +11,7 @@ by-reserve-spec =
     (tie.spec
     (λ c κs. search needs)  -- payout-amount-requires
     (λ c κs. search needs)  -- peel-requires
-    (λ c κs. (search file-short, (search (reserve-short, peel-within), (search needs, (search needs, search needs)))))  -- reserve-bounding-payout-requires
+    (λ c κs. (search file-short, (search needs, (search (reserve-short, peel-within), (search needs, (search needs, search needs))))))  -- reserve-bounding-payout-requires
     (λ c. search needs)  -- enum-told
     (λ c. search needs)  -- enum-known-index
     (λ c κs. search needs)  -- by-reserve-at-requires

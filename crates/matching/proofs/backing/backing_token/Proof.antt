@@ -11,7 +11,7 @@ backing-token-spec =
     (λ c κs. search needs)  -- number-at-requires
     (λ c κs. search needs)  -- skip-requires
     (λ c κs. search needs)  -- receiver-requires
-    (λ c κs. search needs)  -- ledger-funding-token-requires
+    (λ c κs. search needs)  -- funding-token-requires
     (λ c. search debit-token)  -- returns
     (λ c κs. search needs)  -- skip-requires-2
     (λ c κs. search small-rest)  -- admitted-inflow-token-requires

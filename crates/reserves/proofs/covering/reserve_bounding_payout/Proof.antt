@@ -10,8 +10,8 @@ pub reserve-bounding-payout-spec : {M : Type 1} → statement M
 reserve-bounding-payout-spec =
     tie.close
     (tie.spec
-    (λ file place amount asked count k candidates candidate-count known₀ i₀ known i. Searching file place amount asked count k candidates candidate-count known₀ known i)  -- Inv-loop
-    (λ file place amount asked count k candidates candidate-count known₀ i₀ known i. candidate-count - i)  -- μ-loop
+    (λ file place amount asked count k candidates candidate-count fundings fundings-count known₀ i₀ known i. Searching file place amount asked count k candidates candidate-count known₀ known i)  -- Inv-loop
+    (λ file place amount asked count k candidates candidate-count fundings fundings-count known₀ i₀ known i. candidate-count - i)  -- μ-loop
     (λ c κs. (omega arith, search candidates-room))  -- first-equal-requires
     (λ c. (search none-equal, search needs))  -- returns
     (λ c κs. search needs)  -- skip-requires
@@ -20,7 +20,7 @@ reserve-bounding-payout-spec =
     (λ c. search searching-first)  -- loop-holds
     (λ c. omega arith)  -- add-number-at
     (λ c κs. search needs)  -- number-at-requires
-    (λ c κs. search needs)  -- holds-token-requires
+    (λ c κs. (search needs, (search needs, (search needs, search needs))))  -- holds-token-requires
     (λ c. omega arith)  -- same-length
     (λ c. (search searching-found, search needs))  -- returns-3
     (λ c. search (two-fit, needs))  -- add-first-equal

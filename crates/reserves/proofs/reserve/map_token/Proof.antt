@@ -31,5 +31,5 @@ map-token-spec =
     (tie.spec
     (λ c κs. search needs)  -- same-bytes-requires
     (λ c. search last-again)  -- returns
-    (λ c κs. search needs)  -- ledger-funding-token-requires
+    (λ c κs. search needs)  -- funding-token-requires
     (λ c. search needs))  -- returns-2

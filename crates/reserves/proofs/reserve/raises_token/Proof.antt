@@ -10,10 +10,10 @@ pub raises-token-spec : {M : Type 1} → statement M
 raises-token-spec =
     tie.close
     (tie.spec
-    (λ file name found₀ last₀ entry calls count guarded unnamed t₀ found last t. Raises file name entry calls count guarded unnamed found last t)  -- Inv-loop
-    (λ file name found₀ last₀ entry calls count guarded unnamed t₀ found last t. length t)  -- μ-loop
-    (λ file name found₀ last₀ entry₀ found last entry. Entries file name found last entry)  -- Inv-search
-    (λ file name found₀ last₀ entry₀ found last entry. length entry)  -- μ-search
+    (λ file name fundings fundings-count found₀ last₀ entry calls count guarded unnamed t₀ found last t. Raises file name fundings fundings-count entry calls count guarded unnamed found last t)  -- Inv-loop
+    (λ file name fundings fundings-count found₀ last₀ entry calls count guarded unnamed t₀ found last t. length t)  -- μ-loop
+    (λ file name fundings fundings-count found₀ last₀ entry₀ found last entry. Entries file name found last entry)  -- Inv-search
+    (λ file name fundings fundings-count found₀ last₀ entry₀ found last entry. length entry)  -- μ-search
     (λ c. search needs)  -- slice-aggregate-found
     (λ c. search needs)  -- slice-aggregate-last
     (λ c κs. search needs)  -- first-raising-requires
@@ -33,13 +33,13 @@ raises-token-spec =
     (λ c κs. search needs)  -- raise-debit-requires
     (λ c. search needs)  -- slice-aggregate-inflow-token
     (λ c κs. search needs)  -- inflow-token-requires
-    (λ c κs. search needs)  -- raise-token-requires
+    (λ c κs. (search needs, (search needs, search needs)))  -- raise-token-requires
     (λ c κs. search needs)  -- is-barred-requires
     (λ c. search needs)  -- slice-aggregate-result
     (λ c κs. search needs)  -- receiver-requires
     (λ c κs. search needs)  -- next-raise-requires
     (λ c. search (ahead-less, told))  -- loop-less
-    (λ c. search (raises-on, told))  -- loop-again
+    (λ c. raises-on _ _ _ _ _ _ _ _ _ _ _ _ (c .before .before .before .before .before .before .before .before .before .before .before .before .before .loop .inv) (search told) _ (c .before .before .before .before .before .before .before .before .before .before .raised-by .ensures) _ (c .before .before .before .before .before .before .before .before .before .comes-in .ensures) _ (c .before .before .before .before .before .before .before .raise-debit .ensures) _ (c .before .before .before .before .before .inflow-token .ensures) _ (c .before .before .before .before .raise-token .ensures) _ (c .before .before .before .is-barred .ensures) (search needs) _ (search needs) _ (search needs))  -- loop-again
     (λ c κs. search needs)  -- after-front-requires
     (λ c κs. search needs)  -- first-raising-requires-2
     (λ c. search (behind-less, told))  -- search-less
