@@ -11,6 +11,7 @@ use Rattle.fields.specs.Field.{Field, Fields, fields, front, nothing}
 use Rattle.fields.specs.Table.{Listed}
 use Rattle.walking.specs.Walking.{payouts}
 use Rattle.walking.specs.Table.{placedAt}
+use Rattle.tokens.specs.Fundings.{Fundings}
 use Rattle.reserves.specs.Candidates.{Candidates}
 use Rattle.reserves.specs.Holding.{askedToken, Right}
 use Rattle.reserves.proofs.Remembering.{zeros-right}
@@ -112,7 +113,7 @@ module _ (file : List ℕ) (place : ℕ) (table : List ℕ) (count : ℕ) (l : P
 -- The pass so far
 
 pub record Running (file : List ℕ) (place : ℕ) (table : List ℕ) (count : ℕ) (debits : List ℕ) (debitCount total : ℕ)
-    (candidates : List ℕ) (candidateCount : ℕ) (known cover-bytes : List ℕ) (marks : Coded) (k : ℕ) : Type 0 where
+    (candidates : List ℕ) (candidateCount : ℕ) (fundings : List ℕ) (fundingsCount : ℕ) (known cover-bytes : List ℕ) (marks : Coded) (k : ℕ) : Type 0 where
   pub state : Marks
   pub done : List Cover
   pub reached : k ≤ count
@@ -123,6 +124,7 @@ pub record Running (file : List ℕ) (place : ℕ) (table : List ℕ) (count : �
   pub stands : Stands (backingsOf file place) marks state
   pub within : Within (fields file) (entryOf file place) state
   pub listed : Candidates file place candidates candidateCount
+  pub funded : Fundings file fundings fundingsCount
   pub right : Right file table count known
   pub long : length known ≡ 2979
   pub wide : length cover-bytes ≡ 192
@@ -130,10 +132,10 @@ pub record Running (file : List ℕ) (place : ℕ) (table : List ℕ) (count : �
   pub rest : matching (fields file) (entryOf file place)
       ≡ withCovers done (matchFrom (fields file) (entryOf file place) state k (drop k (payouts (entryOf file place))))
 
-module _ (file : List ℕ) (place : ℕ) (table : List ℕ) (count : ℕ) (debits : List ℕ) (debitCount total : ℕ) (candidates : List ℕ) (candidateCount : ℕ) where
-  pub running-none : Payouts file place table count → Tabled file place debits debitCount total → Candidates file place candidates candidateCount → (m : Coded) → m ≡ allFree → Running file place table count debits debitCount total candidates candidateCount (replicate 2979 0) (replicate 192 0) m 0
+module _ (file : List ℕ) (place : ℕ) (table : List ℕ) (count : ℕ) (debits : List ℕ) (debitCount total : ℕ) (candidates : List ℕ) (candidateCount : ℕ) (fundings : List ℕ) (fundingsCount : ℕ) where
+  pub running-none : Payouts file place table count → Tabled file place debits debitCount total → Candidates file place candidates candidateCount → Fundings file fundings fundingsCount → (m : Coded) → m ≡ allFree → Running file place table count debits debitCount total candidates candidateCount fundings fundingsCount (replicate 2979 0) (replicate 192 0) m 0
   unfolding start matching sheet allFree
-  running-none l d c m e =
+  running-none l d c o m e =
       let few : length (backingsOf file place) ≤ 64 = omega (arith, backings-many file place debits debitCount total d, d .few) in
       record {
         state = start (fields file) (entryOf file place);
@@ -146,6 +148,7 @@ module _ (file : List ℕ) (place : ℕ) (table : List ℕ) (count : ℕ) (debit
         stands = rw e (start-stands (fields file) (entryOf file place) few);
         within = λ f k. k;
         listed = c;
+        funded = o;
         right = zeros-right file table count 2979;
         long = length-replicate {A = ℕ} 2979 0;
         wide = length-replicate {A = ℕ} 192 0;
@@ -153,7 +156,7 @@ module _ (file : List ℕ) (place : ℕ) (table : List ℕ) (count : ℕ) (debit
         rest = refl;
       }
 
-  module _ (known bytes : List ℕ) (marks : Coded) (k : ℕ) (v : Running file place table count debits debitCount total candidates candidateCount known bytes marks k) where
+  module _ (known bytes : List ℕ) (marks : Coded) (k : ℕ) (v : Running file place table count debits debitCount total candidates candidateCount fundings fundingsCount known bytes marks k) where
     abbrev l : Payouts file place table count
     l = v .paid
 
@@ -177,7 +180,7 @@ module _ (file : List ℕ) (place : ℕ) (table : List ℕ) (count : ℕ) (debit
       this-payout = payout-there file place table count l k h s f
 
       -- what the answer needs
-      pub running-prepared : Prepared file place debits debitCount total table count k candidates candidateCount known s
+      pub running-prepared : Prepared file place debits debitCount total table count k candidates candidateCount fundings fundingsCount known s
       unfolding askedToken payoutToken
       running-prepared =
           record {
@@ -187,6 +190,7 @@ module _ (file : List ℕ) (place : ℕ) (table : List ℕ) (count : ℕ) (debit
             token = rw f;
             listed = v .listed;
             right = v .right;
+            funded = v .funded;
           }
 
       left-over : drop k (payouts entry) ≡ front s ∷ drop (k + 1) (payouts entry)
@@ -252,7 +256,7 @@ module _ (file : List ℕ) (place : ℕ) (table : List ℕ) (count : ℕ) (debit
               v .rest ∙ rw (left-over, matchFrom, same, next) (one-more (v .done) (coverOf c) (matchFrom model entry (answers .after) (suc k) (drop (suc k) (payouts entry))))
 
           covered-on : r .marks .uses ≤ marks .uses + 1 → (last : List ℕ) → length last ≡ length known → Right file table count last → (kk ii : ℕ) → kk ≡ kind (coverOf c) → ii ≡ index (coverOf c) →
-              (u : List ℕ) → u ≡ sets bytes (3 * k) (coverBytes kk ii) → (m : Coded) → m ≡ r .marks → Running file place table count debits debitCount total candidates candidateCount last u m (k + 1)
+              (u : List ℕ) → u ≡ sets bytes (3 * k) (coverBytes kk ii) → (m : Coded) → m ≡ r .marks → Running file place table count debits debitCount total candidates candidateCount fundings fundingsCount last u m (k + 1)
           covered-on less last same-known right kk ii x y u w m z =
               let three : u ≡ sets bytes (3 * k) (sheet (coverOf c ∷ [])) = w ∙ rw (x, y) (ap (λ l. sets bytes (3 * k) l) (bytes-of (coverOf c) index-small)) in
               record {
@@ -266,6 +270,7 @@ module _ (file : List ℕ) (place : ℕ) (table : List ℕ) (count : ℕ) (debit
                 stands = rw z (answers .stands);
                 within = step-within model entry (v .state) (front s) (coverOf c) (answers .after) (v .within) step;
                 listed = v .listed;
+                funded = v .funded;
                 right = right;
                 long = same-known ∙ v .long;
                 wide = rw three (length-sets bytes (3 * k) (sheet (coverOf c ∷ [])) ∙ v .wide);
@@ -275,11 +280,11 @@ module _ (file : List ℕ) (place : ℕ) (table : List ℕ) (count : ℕ) (debit
 
         pub running-on : (kindIn (r .answer) ≡ 0 → ⊥) → r .marks .uses ≤ marks .uses + 1 → (last : List ℕ) → length last ≡ length known → Right file table count last →
             (kk ii : ℕ) → kk ≡ kindIn (r .answer) → ii ≡ indexIn (r .answer) → (u : List ℕ) → u ≡ sets bytes (3 * k) (coverBytes kk ii) → (m : Coded) → m ≡ r .marks →
-            Running file place table count debits debitCount total candidates candidateCount last u m (k + 1)
+            Running file place table count debits debitCount total candidates candidateCount fundings fundingsCount last u m (k + 1)
         unfolding kindIn indexIn
         running-on some less last same-known right kk ii x y u w m z = go (r .answer) refl
           where
-            go : (a : Answer) → r .answer ≡ a → Running file place table count debits debitCount total candidates candidateCount last u m (k + 1)
+            go : (a : Answer) → r .answer ≡ a → Running file place table count debits debitCount total candidates candidateCount fundings fundingsCount last u m (k + 1)
             go (Rejected q) e = absurd (some (ap kindIn e))
             go (Covered c) e = covered-on c e less last same-known right kk ii (x ∙ ap kindIn e) (y ∙ ap indexIn e) u w m z
 

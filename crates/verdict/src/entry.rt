@@ -14,6 +14,8 @@ use matching::answer::answer_payout;
 use matching::marks::all_free;
 use questions::model::nth_entry;
 use reserves::candidates::list_candidates;
+use tokens::ledger::NOT_LISTED;
+use tokens::ledger::list_fundings;
 use walking::parameters::count_asset_parameters;
 use walking::walk::list_body;
 ghost use mathlib.Core.Path.{_≡_};
@@ -23,6 +25,7 @@ ghost use lib.Dec.{leb};
 ghost use lib.ListN.{length, getD, drop};
 ghost use Rattle.fields.specs.Field.{fields};
 ghost use Rattle.walking.specs.Table.{placedAt};
+ghost use Rattle.tokens.specs.Fundings.{Fundings};
 ghost use Rattle.matching.specs.Tables.{Tabled, entryOf};
 ghost use Rattle.matching.specs.Coded.{coverOf, codedReason};
 ghost use Rattle.verdict.specs.Verdict.{kind, index, matching, entryVerdict, written};
@@ -101,6 +104,28 @@ fn nth_payout<'a>(file: &'a [u8], payouts: &[u16], k: usize) -> &'a [u8]
     skip(file, number_at(payouts, k))
 }
 
+// Lists the calls of the file that fund a map, where a payout can ask for a map's token: that of a debit or, of a state field
+// that a guard bounds the amount by, those of the maps that its raises come from. Else it says that nothing was listed.
+fn list_if_asked(
+    file: &[u8],
+    payout_count: usize,
+    debit_count: usize,
+    candidate_count: usize,
+    table: &mut [u16],
+) -> usize
+    requires short { ⌜ length (now file) ≤ 32768 ⌝ }
+    requires room { ⌜ 21845 ≤ length (now table) ⌝ }
+    ensures { λ r. ⌜ Fundings (now (file .entry)) (now (table .exit)) r ⌝ }
+{
+    if payout_count == 0 {
+        return NOT_LISTED;
+    }
+    if (debit_count == 0) & (candidate_count == 0) {
+        return NOT_LISTED;
+    }
+    list_fundings(file, table)
+}
+
 // The entry at a place of the file, payout by payout. The covers are written at the end, where each payout has one.
 fn match_payouts(
     file: &[u8],
@@ -120,6 +145,14 @@ fn match_payouts(
 {
     let mut candidates = [0u16; 10923];
     let candidate_count = list_candidates(file, place, &mut candidates);
+    let mut fundings = [0u16; 21846];
+    let fundings_count = list_if_asked(
+        file,
+        payout_count,
+        debit_count,
+        candidate_count,
+        &mut fundings,
+    );
     let mut known = [0u16; 2979];
     let mut sheet = [0u8; 192];
     let mut marks = all_free();
@@ -139,6 +172,8 @@ fn match_payouts(
             k,
             &candidates,
             candidate_count,
+            &fundings,
+            fundings_count,
             &mut known,
         );
         let answer = answered.answer;

@@ -1,0 +1,15 @@
+-- Nothing was listed, or all in a table with room.
+use borrow.Author.Needs.{needs}
+use Rattle.tokens.proofs.Entering.{fundings-unlisted, fundings-wide}
+use Rattle.verdict.proofs.entry.list_if_asked.Statement.{statement}
+use Rattle.verdict.proofs.entry.list_if_asked.Tie as tie
+
+pub list-if-asked-spec : {M : Type 1} → statement M
+list-if-asked-spec =
+    tie.close
+    (tie.spec
+    (λ c. search fundings-unlisted)  -- returns
+    (λ c. search fundings-unlisted)  -- returns-2
+    (λ c κs. search needs)  -- list-fundings-requires
+    (λ c. search needs)  -- same-length
+    (λ c. search fundings-wide))  -- returns-3
