@@ -6,6 +6,7 @@ use matching::answer::Reason;
 use questions::check::Answer;
 use questions::file::check_file;
 use reserves::reserve::reserve_token;
+use tokens::ledger::NOT_LISTED;
 use tokens::token::admitted_inflow_token;
 use tokens::token::ledger_funding_token;
 use verdict::entry::Verdict;
@@ -140,5 +141,6 @@ pub extern "C" fn zevdrak_is_reserve_token(file: &[u8], field: &[u8], token: &[u
     if 32768 < file.len() {
         return false;
     }
-    same_bytes(reserve_token(file, field), token)
+    let nothing = [0u16; 1];
+    same_bytes(reserve_token(file, field, &nothing, NOT_LISTED), token)
 }

@@ -7,14 +7,12 @@ use mathlib.Core.List.{List, [], _∷_, _++_, flatMap}
 use native.Mathlib.Omega.{arith}
 use borrow.Author.Tests.{leb-true, leb-false}
 use lib.Dec.{leb}
-use lib.ListN.{length, drop, length-drop, length-append, drop-of-length-le}
+use lib.ListN.{length, drop, length-drop, drop-of-length-le}
 use lib.Seq.{length-sets, drop-drop, drop-length}
-use Rattle.fields.specs.Lists.{filter}
-use Rattle.fields.specs.Tag.{Entry, between}
+use Rattle.fields.specs.Tag.{Entry}
 use Rattle.fields.specs.Table.{Listed}
-use Rattle.fields.specs.Field.{Field, Fields, Placed, fields, lengthOf, whole, after, front, tag, size, sizes, placed, placedFrom, placeFrom, from}
-use Rattle.fields.specs.Field.Fields.{end, next}
-use Rattle.fields.proofs.Places.{front-size, tree-size}
+use Rattle.fields.specs.Field.{Field, Placed, fields, lengthOf, whole, after, front, size, placeFrom, from}
+use Rattle.fields.proofs.Places.{front-size}
 use Rattle.fields.proofs.Rows.{after-size, restOf, from-shorter, from-placed, rest-next}
 use Rattle.fields.proofs.Tables.{listed-none, listed-then, listed-front}
 use Rattle.questions.specs.Model.{entries}
@@ -40,40 +38,15 @@ unfolding fundingsOf
 entry-few file p =
     omega (arith, numbers-few (p .this) (tokensNumber file p) (bodyExprs p), within-length (p .place + 3) (p .place + size (p .this)) (bodyExprs p) (body-within p))
 
-row-few : (file : List ℕ) (n : ℕ) (fs : Fields) → 3 * length (flatMap (fundingsOf file) (placedFrom Entry Entry n fs)) ≤ 2 * sizes fs
-unfolding flatMap placedFrom filter placed sizes
-row-few file n (end r) = omega arith
-row-few file n (next f fs) = go (between Entry Entry (tag f)) (row-few file (n + size f) fs)
-  where
-    go : (k : Bool) → 3 * length (flatMap (fundingsOf file) (placedFrom Entry Entry (n + size f) fs)) ≤ 2 * sizes fs →
-        3 * length (flatMap (fundingsOf file) (cond k (record { place = n; this = f } ∷ placedFrom Entry Entry (n + size f) fs) (placedFrom Entry Entry (n + size f) fs))) ≤ 2 * (size f + sizes fs)
-    go true h =
-        rw (length-append (fundingsOf file (record { place = n; this = f })) (flatMap (fundingsOf file) (placedFrom Entry Entry (n + size f) fs)))
-        (omega (arith, h, entry-few file (record { place = n; this = f })))
-    go false h = omega (arith, h)
-
-fundings-few : (file : List ℕ) → 3 * length (fundings file) ≤ 2 * length file
-unfolding fundings entries
-fundings-few file = omega (arith, row-few file 0 (fields file), tree-size file)
-
 -- What a caller cites: nothing was listed, or all in a table with room
 
 pub fundings-unlisted : (file table : List ℕ) → Fundings file table 65535
 fundings-unlisted file table = record { room = λ n. absurd (n refl); listed = λ n. absurd (n refl) }
 
-pub fundings-wide : (file zeros table : List ℕ) (count : ℕ) → length file ≤ 32768 → 21845 ≤ length zeros → Listed (fundings file) zeros 0 table count →
-    Fundings file table count
-fundings-wide file zeros table count h k l =
-    let m : count ≤ length zeros = omega (arith, l .count, fundings-few file) in
+pub fundings-fit : (file zeros table : List ℕ) (count : ℕ) → Listed (fundings file) zeros 0 table count → count ≤ length table → Fundings file table count
+fundings-fit file zeros table count l m =
     let w : length table ≡ length zeros = rw (l .kept) (length-sets zeros 0 (fundings file)) in
-    record {
-      room = λ n. omega arith;
-      listed = λ n. listed-front (fundings file) zeros table count l m;
-    }
-
-pub fundings-listed : (file zeros table : List ℕ) (count : ℕ) → length file ≤ 32768 → length zeros ≡ 21846 → Listed (fundings file) zeros 0 table count →
-    Fundings file table count
-fundings-listed file zeros table count h k l = fundings-wide file zeros table count h (omega (arith, k)) l
+    record { room = λ n. m; listed = λ n. listed-front (fundings file) zeros table count l (omega (arith, m, w)) }
 
 -- One entry after the other
 

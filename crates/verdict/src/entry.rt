@@ -114,7 +114,6 @@ fn list_if_asked(
     table: &mut [u16],
 ) -> usize
     requires short { ⌜ length (now file) ≤ 32768 ⌝ }
-    requires room { ⌜ 21845 ≤ length (now table) ⌝ }
     ensures { λ r. ⌜ Fundings (now (file .entry)) (now (table .exit)) r ⌝ }
 {
     if payout_count == 0 {
@@ -123,7 +122,11 @@ fn list_if_asked(
     if (debit_count == 0) & (candidate_count == 0) {
         return NOT_LISTED;
     }
-    list_fundings(file, table)
+    let count = list_fundings(file, table);
+    if table.len() < count {
+        return NOT_LISTED;
+    }
+    count
 }
 
 // The entry at a place of the file, payout by payout. The covers are written at the end, where each payout has one.
@@ -145,7 +148,7 @@ fn match_payouts(
 {
     let mut candidates = [0u16; 10923];
     let candidate_count = list_candidates(file, place, &mut candidates);
-    let mut fundings = [0u16; 21846];
+    let mut fundings = [0u16; 1490];
     let fundings_count = list_if_asked(
         file,
         payout_count,

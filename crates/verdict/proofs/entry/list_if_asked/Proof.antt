@@ -1,6 +1,6 @@
--- Nothing was listed, or all in a table with room.
+-- Nothing was listed, or all had room in the table.
 use borrow.Author.Needs.{needs}
-use Rattle.tokens.proofs.Entering.{fundings-unlisted, fundings-wide}
+use Rattle.tokens.proofs.Entering.{fundings-unlisted, fundings-fit}
 use Rattle.verdict.proofs.entry.list_if_asked.Statement.{statement}
 use Rattle.verdict.proofs.entry.list_if_asked.Tie as tie
 
@@ -12,4 +12,6 @@ list-if-asked-spec =
     (λ c. search fundings-unlisted)  -- returns-2
     (λ c κs. search needs)  -- list-fundings-requires
     (λ c. search needs)  -- same-length
-    (λ c. search fundings-wide))  -- returns-3
+    (λ c. search fundings-unlisted)  -- returns-3
+    (λ c. search needs)  -- same-length-2
+    (λ c. search (fundings-fit, needs)))  -- returns-4
