@@ -1,3 +1,8 @@
 pub mod Buffer
 pub mod Decimal
-pub mod Lines
+pub mod Pieces
+pub mod Lined
+pub mod Repeating
+pub mod Passed
+pub mod Sparing
+pub mod Deciding

@@ -1,2 +1,4 @@
 // The listing of a file.
+pub mod lines;
 pub mod output;
+pub mod spare;

@@ -84,15 +84,15 @@ module _ (model : Fields) (entry : Field) where
       (λ h. omega (arith, at-below (backsReserve model entry p) _ i (and-right (eqb k 5) r h))) e
 
 -- of a run of questions that all pass, each passes
-earlier-asked : (a b : Asked) → a andThen b ≡ passes → a ≡ passes
+pub earlier-asked : (a b : Asked) → a andThen b ≡ passes → a ≡ passes
 earlier-asked passes b e = refl
 earlier-asked (fails n p) b e = e
 
-later-asked : (a b : Asked) → a andThen b ≡ passes → b ≡ passes
+pub later-asked : (a b : Asked) → a andThen b ≡ passes → b ≡ passes
 later-asked passes b e = e
 later-asked (fails n p) b e = cc
 
-asked : (a : Bool) (n p : ℕ) → ask a n p ≡ passes → a ≡ true
+pub asked : (a : Bool) (n p : ℕ) → ask a n p ≡ passes → a ≡ true
 asked true n p e = refl
 asked false n p e = cc
 

@@ -1,6 +1,6 @@
 -- The pieces are written one behind the other.
 use borrow.Author.Needs.{needs}
-use Rattle.listing.proofs.Lines.{three-written}
+use Rattle.listing.proofs.Pieces.{three-written}
 use Rattle.listing.proofs.output.write_three.Statement.{statement}
 use Rattle.listing.proofs.output.write_three.Tie as tie
 

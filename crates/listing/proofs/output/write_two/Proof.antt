@@ -1,6 +1,6 @@
 -- The pieces are written one behind the other.
 use borrow.Author.Needs.{needs}
-use Rattle.listing.proofs.Lines.{two-written}
+use Rattle.listing.proofs.Pieces.{two-written}
 use Rattle.listing.proofs.output.write_two.Statement.{statement}
 use Rattle.listing.proofs.output.write_two.Tie as tie
 

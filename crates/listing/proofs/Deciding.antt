@@ -1,0 +1,117 @@
+-- The lines of an entry by its verdict, and the lines of its covers by their bytes.
+use Prim.Native.Nat.{ℕ, zero, suc, _+_, _-_, _*_, _≤_, _<_}
+use mathlib.Core.Path.{_≡_, refl, sym, ap, _∙_}
+use mathlib.Core.Bool.{false≢true}
+use mathlib.Core.List.{List, [], _∷_, _++_, flatMap}
+use native.Mathlib.Omega.{arith}
+use lib.ListN.{length, getD, take, drop, length-take}
+use lib.Seq.{take-all, take-suc}
+use Rattle.fields.specs.Lists.{numbered}
+use Rattle.fields.specs.Field.{Fields}
+use Rattle.questions.specs.Questions.{passes}
+use Rattle.matching.specs.Matching.{Cover, Reason}
+use Rattle.matching.specs.Matching.Cover.{reserve}
+use Rattle.matching.specs.declared.answer.Reason.{Reason as CodedReason}
+use Rattle.verdict.specs.Verdict.{Verdict, refused, rejected, accepted, entryAt, askEntry, entryVerdict, kind, index, sheet, written, spare}
+use Rattle.verdict.specs.Claim.{kindAt, indexAt}
+use Rattle.verdict.specs.Coded.{coded}
+use Rattle.verdict.specs.declared.entry.Verdict.{Verdict as CodedVerdict}
+use Rattle.verdict.specs.declared.entry.Verdict.the-variants.{Refused, Rejected, Accepted}
+use Rattle.verdict.proofs.Sheets.{kind-at, index-at}
+use Rattle.listing.specs.Output.{Written}
+use Rattle.listing.specs.Listing.{refusalLine, acceptedLine, rejectedLine, coverLine, entryLines, below}
+use Rattle.listing.specs.Coded.{coverLineAt}
+use Rattle.listing.proofs.Buffer.{written-then}
+use Rattle.listing.proofs.Repeating.{each-then}
+use Rattle.listing.proofs.Passed.{accepted-passes, accepted-few}
+
+-- one more at the end has the next number
+numbered-then : {A : Type 0} (k : ℕ) (l : List A) (x : A) → numbered k (l ++ x ∷ []) ≡ numbered k l ++ (k + length l, x) ∷ []
+unfolding numbered
+numbered-then k [] x = let e : k + 0 ≡ k = omega arith in rw e
+numbered-then k (y ∷ l) x = let e : k + suc (length l) ≡ suc k + length l = omega arith in rw (e, numbered-then (suc k) l x)
+
+module _ (cs : List Cover) (rest : List ℕ) where
+  abbrev covers : List ℕ
+  covers = sheet cs ++ rest
+
+  one-cover : (i : ℕ) → i < length cs → coverLineAt covers i ≡ coverLine (i, getD cs i (reserve 0))
+  unfolding coverLineAt coverLine
+  one-cover i h = rw (kind-at cs rest i (reserve 0) h, index-at cs rest i (reserve 0) h)
+
+  first-covers : (k : ℕ) → k ≤ length cs → flatMap (coverLineAt covers) (below k) ≡ flatMap coverLine (numbered 0 (take k cs))
+  unfolding below numbered flatMap
+  first-covers zero h = refl
+  first-covers (suc k) h =
+      let l : 0 + length (take k cs) ≡ k = rw length-take (omega (arith, h)) in
+      let next : numbered 0 (take (suc k) cs) ≡ numbered 0 (take k cs) ++ (k, getD cs k (reserve 0)) ∷ [] =
+      ap (numbered 0) (take-suc cs k (reserve 0) h) ∙ numbered-then 0 (take k cs) (getD cs k (reserve 0)) ∙ ap (λ j. numbered 0 (take k cs) ++ (j, getD cs k (reserve 0)) ∷ []) l in
+      each-then (coverLineAt covers) (below k) k
+      ∙ rw (first-covers k (omega (arith, h)), one-cover k (omega (arith, h)))
+      (sym (each-then coverLine (numbered 0 (take k cs)) (k, getD cs k (reserve 0)))
+      ∙ ap (flatMap coverLine) (sym next))
+
+  pub all-covers : flatMap (coverLineAt covers) (below (length cs)) ≡ flatMap coverLine (numbered 0 cs)
+  all-covers = first-covers (length cs) (omega arith) ∙ rw (take-all (length cs) cs (omega arith))
+
+-- each case of the verdict as the code gives it
+module _ (model : Fields) (n : ℕ) (v : CodedVerdict) (lent : ℕ) (w : lent ≡ 192) (e : v ≡ coded (entryVerdict model n lent)) where
+  as-refused : (k p : ℕ) → v ≡ Refused k p → entryVerdict model n lent ≡ refused k p
+  unfolding coded
+  as-refused k p f = go (entryVerdict model n lent) refl
+    where
+      go : (x : Verdict) → entryVerdict model n lent ≡ x → x ≡ refused k p
+      go (refused l q) h = cc
+      go (rejected l q) h = absurd (false≢true (cc))
+      go (accepted cs) h = absurd (false≢true (cc))
+
+  as-rejected : (k : ℕ) (p : CodedReason) → v ≡ Rejected k p → (q : Reason) × (entryVerdict model n lent ≡ rejected k q)
+  unfolding coded
+  as-rejected k p f = go (entryVerdict model n lent) refl
+    where
+      go : (x : Verdict) → entryVerdict model n lent ≡ x → (q : Reason) × (x ≡ rejected k q)
+      go (refused l q) h = absurd (false≢true (cc))
+      go (rejected l q) h = (q, cc)
+      go (accepted cs) h = absurd (false≢true (cc))
+
+  as-accepted : (k : ℕ) → v ≡ Accepted k → (cs : List Cover) × (entryVerdict model n lent ≡ accepted cs) × (length cs ≡ k)
+  unfolding coded
+  as-accepted k f = go (entryVerdict model n lent) refl
+    where
+      go : (x : Verdict) → entryVerdict model n lent ≡ x → (cs : List Cover) × (x ≡ accepted cs) × (length cs ≡ k)
+      go (refused l q) h = absurd (false≢true (cc))
+      go (rejected l q) h = absurd (false≢true (cc))
+      go (accepted cs) h = (cs, refl, cc)
+
+  pub refused-lines : (k p : ℕ) → v ≡ Refused k p → (t : List ℕ) (at : ℕ) (u : List ℕ) (r : ℕ) → Written (refusalLine k p) t at u r → Written (entryLines model n) t at u r
+  unfolding entryLines
+  refused-lines k p f t at u r x = let h : entryVerdict model n 192 ≡ refused k p = ap (entryVerdict model n) (sym w) ∙ as-refused k p f in rw (entryLines, h) x
+
+  pub rejected-lines : (k : ℕ) (p : CodedReason) → v ≡ Rejected k p → (t : List ℕ) (at : ℕ) (u : List ℕ) (r : ℕ) → Written (rejectedLine n k) t at u r → Written (entryLines model n) t at u r
+  unfolding entryLines
+  rejected-lines k p f t at u r x = let (q, g) = as-rejected k p f in let h : entryVerdict model n 192 ≡ rejected k q = ap (entryVerdict model n) (sym w) ∙ g in rw (entryLines, h) x
+
+  module _ (k : ℕ) (f : v ≡ Accepted k) where
+    pub accepted-asked : askEntry model n 192 ≡ passes
+    accepted-asked = let (cs, g, i) = as-accepted k f in ap (askEntry model n) (sym w) ∙ accepted-passes model n lent cs g
+
+    pub accepted-limit : k ≤ 64
+    accepted-limit = let (cs, g, i) = as-accepted k f in omega (arith, accepted-few model n lent cs g w, i)
+
+    -- with its covers at hand
+    accepted-by : (cs : List Cover) → entryVerdict model n lent ≡ accepted cs → length cs ≡ k →
+        (s : ℕ) → s ≡ spare (entryAt model n .this) → (before after : List ℕ) → after ≡ written (entryVerdict model n lent) before →
+        (t : List ℕ) (at : ℕ) (u : List ℕ) (m : ℕ) → Written (acceptedLine n k s) t at u m → (z : List ℕ) (r : ℕ) →
+        Written (flatMap (coverLineAt after) (below k)) u m z r → Written (entryLines model n) t at z r
+    unfolding entryLines written
+    accepted-by cs g i s d before after a t at u m x z r y =
+        let h : entryVerdict model n 192 ≡ accepted cs = ap (entryVerdict model n) (sym w) ∙ g in
+        let b : after ≡ sheet cs ++ drop (3 * length cs) before = a ∙ ap (λ v. written v before) g in
+        let q : flatMap (coverLineAt after) (below k) ≡ flatMap coverLine (numbered 0 cs) =
+        ap (λ j. flatMap (coverLineAt after) (below j)) (sym i) ∙ rw b (all-covers cs (drop (3 * length cs) before)) in
+        rw (entryLines, h, i, ← d, ← q) (written-then (acceptedLine n k s) t at u m x (flatMap (coverLineAt after) (below k)) z r y)
+
+    pub accepted-lines : (s : ℕ) → s ≡ spare (entryAt model n .this) → (before after : List ℕ) → after ≡ written (entryVerdict model n lent) before →
+        (t : List ℕ) (at : ℕ) (u : List ℕ) (m : ℕ) → Written (acceptedLine n k s) t at u m → (z : List ℕ) (r : ℕ) →
+        Written (flatMap (coverLineAt after) (below k)) u m z r → Written (entryLines model n) t at z r
+    accepted-lines = let (cs, g, i) = as-accepted k f in accepted-by cs g i
