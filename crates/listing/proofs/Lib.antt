@@ -6,3 +6,5 @@ pub mod Repeating
 pub mod Passed
 pub mod Sparing
 pub mod Deciding
+pub mod Entries
+pub mod Examples

@@ -8,8 +8,8 @@ pub accepted-line-spec : {M : Type 1} → statement M
 accepted-line-spec =
     tie.close
     (tie.spec
-    (λ c. search needs) -- slice-aggregate-write-three
-    (λ c. search needs) -- slice-aggregate-write-three-2
-    (λ c κs. search needs) -- write-three-requires
-    (λ c. search needs) -- same-length
-    (λ c. search accepted-lined)) -- returns
+    (λ c. search needs)  -- slice-aggregate-write-three
+    (λ c. search needs)  -- slice-aggregate-write-three-2
+    (λ c κs. search needs)  -- write-three-requires
+    (λ c. search needs)  -- same-length
+    (λ c. search accepted-lined))  -- returns

@@ -8,8 +8,8 @@ pub rejected-line-spec : {M : Type 1} → statement M
 rejected-line-spec =
     tie.close
     (tie.spec
-    (λ c. search needs) -- slice-aggregate-write-two
-    (λ c. search needs) -- slice-aggregate-write-two-2
-    (λ c κs. search needs) -- write-two-requires
-    (λ c. search needs) -- same-length
-    (λ c. search rejected-lined)) -- returns
+    (λ c. search needs)  -- slice-aggregate-write-two
+    (λ c. search needs)  -- slice-aggregate-write-two-2
+    (λ c κs. search needs)  -- write-two-requires
+    (λ c. search needs)  -- same-length
+    (λ c. search rejected-lined))  -- returns

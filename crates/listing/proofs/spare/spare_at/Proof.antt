@@ -8,12 +8,12 @@ pub spare-at-spec : {M : Type 1} → statement M
 spare-at-spec =
     tie.close
     (tie.spec
-    (λ c. search needs) -- slice-aggregate-choose
-    (λ c κs. search needs) -- choose-requires
-    (λ c κs. search needs) -- skip-requires
-    (λ c κs. search needs) -- count-asset-parameters-requires
-    (λ c. search needs) -- slice-aggregate-choose-2
-    (λ c κs. search needs) -- choose-requires-2
-    (λ c. search (backings-fit, needs)) -- add-less
-    (λ c κs. search needs) -- less-requires
-    (λ c. search spare-counted)) -- returns
+    (λ c. search needs)  -- slice-aggregate-choose
+    (λ c κs. search needs)  -- choose-requires
+    (λ c κs. search needs)  -- skip-requires
+    (λ c κs. search needs)  -- count-asset-parameters-requires
+    (λ c. search needs)  -- slice-aggregate-choose-2
+    (λ c κs. search needs)  -- choose-requires-2
+    (λ c. search (backings-fit, needs))  -- add-less
+    (λ c κs. search needs)  -- less-requires
+    (λ c. search spare-counted))  -- returns
