@@ -6,13 +6,7 @@ use fields::bytes::same_bytes;
 use libc::STDIN_FILENO;
 use libc::STDOUT_FILENO;
 use listing::lines::listing;
-
-// What became of a record.
-enum Record {
-    None,
-    Same,
-    Differs,
-}
+ghost use Prim.Native.Nat.{_≤_};
 
 // Reads the two bytes of a length, most significant first; 65,536, which no length is, where the input ends.
 fn read_length() -> usize {
@@ -38,25 +32,38 @@ fn answers(file: &[u8], expected: &[u8]) -> bool {
     same_bytes(keep(&buffer, length), expected)
 }
 
-// One record: a file and its listing, each with its length in front of it. A record that is cut off differs.
-fn replay_one() -> Record {
+// Reads a record, a file and its listing, each with its length in front of it, and answers how many differences there are: 0,
+// or 1 where the listing is another or the record is cut off; 2 where there is no record.
+fn replay_one() -> usize
+    ensures { λ r. ⌜ r ≤ 2 ⌝ }
+{
     let mut file = [0u8; 32769];
     let n = read_length();
     if n == 65536 {
-        return Record::None;
+        return 2;
     }
     if !read_bytes(&mut file, n) {
-        return Record::Differs;
+        return 1;
     }
     let mut expected = [0u8; 65535];
     let m = read_length();
     if !read_bytes(&mut expected, m) {
-        return Record::Differs;
+        return 1;
     }
     if answers(keep(&file, n), keep(&expected, m)) {
-        return Record::Same;
+        return 0;
     }
-    Record::Differs
+    1
+}
+
+// One more record before the first difference, or none.
+fn one_more(differences: usize) -> usize
+    ensures { λ r. ⌜ r ≤ 1 ⌝ }
+{
+    if differences == 0 {
+        return 1;
+    }
+    0
 }
 
 // Writes what was counted.
@@ -78,19 +85,12 @@ fn main() {
     let mut differences = 0;
     let mut first = 0;
     while count < 65536 {
-        match replay_one() {
-            Record::None => {
-                print(count, differences, first);
-                return;
-            }
-            Record::Differs => {
-                if differences == 0 {
-                    first = count;
-                }
-                differences += 1;
-            }
-            Record::Same => {}
+        let found = replay_one();
+        if found == 2 {
+            break;
         }
+        differences += found;
+        first += one_more(differences);
         count += 1;
     }
     print(count, differences, first);
