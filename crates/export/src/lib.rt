@@ -2,6 +2,7 @@
 use bounds::bounded_by_backing;
 use equality::expr_eq;
 use fields::bytes::same_bytes;
+use listing::lines::listing;
 use matching::answer::Reason;
 use questions::check::Answer;
 use questions::file::check_file;
@@ -22,6 +23,8 @@ ghost use Rattle.matching.specs.Coded.{reasonOf};
 ghost use Rattle.reserves.specs.Reserves.{reserveToken};
 ghost use Rattle.verdict.specs.Verdict.{verdict, written, reason};
 ghost use Rattle.verdict.specs.Claim.{Demand3};
+ghost use Rattle.listing.specs.Output.{Written};
+ghost use Rattle.listing.specs.Listing.{listing};
 ghost use Rattle.export.specs.Answer.{outcome, firstOf, secondOf};
 ghost use Rattle.export.specs.Refusal.{questionIn, placeIn};
 ghost use Rattle.export.specs.Token.{isTokenOf};
@@ -75,6 +78,14 @@ pub extern "C" fn zevdrak_verdict(
             2
         }
     }
+}
+
+// The listing of a file, written into the front of out as far as it has room; the answer is how many bytes of out it takes.
+#[no_mangle]
+pub extern "C" fn zevdrak_listing(file: &[u8], out: &mut [u8]) -> usize
+    ensures { λ r. ⌜ Written (listing (now (file .entry))) (now (out .entry)) 0 (now (out .exit)) r ⌝ }
+{
+    listing(file, out)
 }
 
 // Questions 1 to 8 of a file: 0 if all pass, else the number of the first "no", whose place is then written.

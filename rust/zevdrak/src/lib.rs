@@ -140,3 +140,16 @@ pub fn covers(bytes: &[u8]) -> Vec<Cover> {
     };
     bytes.chunks_exact(3).filter_map(cover).collect()
 }
+
+/// The listing of a model file, as the program `payouts` prints it.
+pub fn listing(file: &[u8]) -> Vec<u8> {
+    let mut buffer = vec![0; LISTING];
+    let length = unsafe {
+        c::zevdrak_listing(file.as_ptr(), file.len(), buffer.as_mut_ptr(), buffer.len())
+    };
+    buffer.truncate(length);
+    buffer
+}
+
+/// Bytes that are enough for the listing of every file.
+const LISTING: usize = 65_536;
