@@ -15,7 +15,7 @@ use Rattle.bounds.specs.Bounds.{boundedByBacking}
 use Rattle.matching.specs.Matching.{payoutAmount}
 use Rattle.matching.specs.Numbers.{firstFrom, downFrom, markIs}
 use Rattle.matching.specs.Standing.{freeAt, usedAt, without, withUsed}
-use Rattle.matching.specs.Tables.{amountAt, matches, passes}
+use Rattle.matching.specs.Tables.{Tabled, Named, amountAt, matches, passes}
 use Rattle.matching.specs.declared.marks.Marks.{Marks as Coded}
 
 module _ (m : Coded) (i : ℕ) where
@@ -135,3 +135,7 @@ pub passes-amount : (file : List ℕ) (place : ℕ) (table : List ℕ) (count : 
     front x ≡ payoutAmount (front s) → (b : Bool) → b ≡ passes file place table count m wanted (front x) bounding i → (k : Bool) → b ≡ k →
     passes file place table count m wanted (payoutAmount (front s)) bounding i ≡ k
 passes-amount file place table count m wanted bounding i s x e b f k h = rw (← e) (sym f ∙ h)
+
+-- what the table says of the backing that is asked
+pub tabled-named : (file : List ℕ) (place : ℕ) (table : List ℕ) (count total : ℕ) → Tabled file place table count total → (i : ℕ) → i < total → Named file place table count i
+tabled-named file place table count total t i h = t .named i h

@@ -9,11 +9,12 @@ use lib.Dec.{ltb}
 use lib.ListN.{length, getD, take, drop, length-take, length-drop}
 use Rattle.fields.specs.Lists.{sameBytes, bytes}
 use Rattle.fields.specs.Field.{Field, fields, front, parts, part, sizes, placeOf}
+use Rattle.questions.specs.Model.{nameOf}
 use Rattle.walking.specs.Walking.{peel, peelPlace, method, receiver, assetParams}
 use Rattle.bounds.specs.Backing.{backingField}
 use Rattle.tokens.specs.Tokens.{admittedInflowToken, fundingToken}
 use Rattle.matching.specs.Matching.{payoutAmount}
-use Rattle.matching.specs.Tables.{amountAt, tokenAt}
+use Rattle.matching.specs.Tables.{Named, entryOf, amountAt, tokenAt}
 
 -- the third argument, or what is split off
 module _ (s v k : List ℕ) (e : front v ≡ part 3 (front s)) (f : front k ≡ peel (front v)) (n : List ℕ) (g : n ≡ method (front k))
@@ -59,11 +60,15 @@ module _ (file : List ℕ) (place : ℕ) (table : List ℕ) (count i : ℕ) wher
     unfolding tokenAt
     debit-token m g r k = rw (lt-ltb i count h, ← e, ← f, ← g) k
 
-  module _ (h : count ≤ i) (d : List ℕ) (f : d ≡ drop place file) where
-    pub parameter-part : (r : List ℕ) → r ≡ getD (assetParams (front d)) (i - count) [] → backingField (not (ltb i count)) r ≡ amountAt file place table count i
+  module _ (h : count ≤ i) where
+    pub parameter-part : Named file place table count i → (n : ℕ) → n ≡ getD table i 0 → (d : List ℕ) → d ≡ drop n file → (r : List ℕ) → r ≡ nameOf (front d) →
+        backingField (not (ltb i count)) r ≡ amountAt file place table count i
     unfolding backingField amountAt
-    parameter-part r g = rw (le-ltb i count h, ← f, g)
+    parameter-part q n e d f r g =
+        let k : r ≡ getD (assetParams (entryOf file place)) (i - count) [] = g ∙ rw (f, e) (q .name h) in
+        rw (le-ltb i count h, k)
 
+  module _ (h : count ≤ i) (d : List ℕ) (f : d ≡ drop place file) where
     pub parameter-token : (r : List ℕ) → r ≡ admittedInflowToken (front d) → r ≡ tokenAt file place table count i
     unfolding tokenAt
     parameter-token r g = rw (le-ltb i count h, ← f) g

@@ -1,12 +1,13 @@
--- What the code knows of an entry: its place in the file, a table of the places of its caller debits, and how many backings
--- there are. Backing number i is debit i, and behind the debits an asset parameter.
-use Prim.Native.Nat.{ℕ, _+_, _-_, _≤_}
+-- What the code knows of an entry: its place in the file, a table of the places of its backings, and how many there are.
+-- Backing number i is debit i, and behind the debits an asset parameter.
+use Prim.Native.Nat.{ℕ, _+_, _-_, _≤_, _<_}
 use mathlib.Core.Path.{_≡_}
 use mathlib.Core.Bool.{Bool, false, cond, _&&_}
 use mathlib.Core.List.{List, [], map}
 use lib.Dec.{ltb}
 use lib.ListN.{length, getD, take, drop}
 use Rattle.fields.specs.Field.{Field, Fields, fields, front, part}
+use Rattle.questions.specs.Model.{nameOf}
 use Rattle.walking.specs.Walking.{peel, receiver, assetParams, debits}
 use Rattle.equality.specs.Equality.{exprEq}
 use Rattle.equality.specs.Amount.{amountOf}
@@ -26,13 +27,19 @@ entryOf file place = front (drop place file)
 abbrev pub backingsOf : List ℕ → ℕ → List Backing
 backingsOf file place = backings (fields file) (entryOf file place)
 
--- the table holds the places of the entry's caller debits, in walk order, and counts are right
+-- where backing number i is an asset parameter, the table has its place
+pub record Named (file : List ℕ) (place : ℕ) (table : List ℕ) (count i : ℕ) : Type 0 where
+  pub name : count ≤ i → nameOf (front (drop (getD table i 0) file)) ≡ getD (assetParams (entryOf file place)) (i - count) []
+
+-- the table holds the places of the entry's caller debits, in walk order, and then those of its asset parameters; counts are
+-- right
 pub record Tabled (file : List ℕ) (place : ℕ) (table : List ℕ) (count total : ℕ) : Type 0 where
   pub small : length file ≤ 32768
   pub listed : map (λ k. front (drop k file)) (take count table) ≡ debits (entryOf file place)
   pub counted : count ≡ length (debits (entryOf file place))
   pub all : total ≡ count + length (assetParams (entryOf file place))
   pub few : total ≤ 64
+  pub named : (i : ℕ) → i < total → Named file place table count i
 
 -- the call of debit number i
 abbrev pub debitAt : (file table : List ℕ) → ℕ → Field

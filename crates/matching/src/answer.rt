@@ -104,7 +104,7 @@ fn conflict_reason(bounding: bool) -> Reason
 fn by_backing(
     file: &[u8],
     place: usize,
-    debits: &[u16],
+    backings: &[u16],
     count: usize,
     total: usize,
     marks: Marks,
@@ -113,15 +113,25 @@ fn by_backing(
     fundings: &[u16],
     fundings_count: usize,
 ) -> Tried
-    requires tabled { ⌜ Tabled (now file) place (now debits) count total ⌝ }
+    requires tabled { ⌜ Tabled (now file) place (now backings) count total ⌝ }
     requires fundings { ⌜ Fundings (now file) (now fundings) «fundings_count» ⌝ }
     ensures { λ r. ⌜ r ≡ tried (byBacking bounding (marksOf (backingsOf (now (file .entry)) place) marks) (front (now (s .entry)))) ⌝ }
 {
-    let i = first_backing(file, place, debits, count, total, marks, true, s, bounding);
+    let i = first_backing(
+        file,
+        place,
+        backings,
+        count,
+        total,
+        marks,
+        true,
+        s,
+        bounding,
+    );
     if total <= i {
         return Tried::Open;
     }
-    if tokens_conflict(file, place, debits, count, i, s, fundings, fundings_count) {
+    if tokens_conflict(file, place, backings, count, i, s, fundings, fundings_count) {
         return Tried::Decided {
             answer: Answer::Rejected {
                 reason: conflict_reason(bounding),
@@ -139,16 +149,16 @@ fn by_backing(
 fn is_taken(
     file: &[u8],
     place: usize,
-    debits: &[u16],
+    backings: &[u16],
     count: usize,
     total: usize,
     marks: Marks,
     s: &[u8],
 ) -> bool
-    requires { ⌜ Tabled (now file) place (now debits) count total ⌝ }
+    requires { ⌜ Tabled (now file) place (now backings) count total ⌝ }
     ensures { λ r. ⌜ r ≡ any (equalsAmount (front (now (s .entry)))) (marksOf (backingsOf (now (file .entry)) place) marks .taken) ⌝ }
 {
-    first_backing(file, place, debits, count, total, marks, false, s, false) < total
+    first_backing(file, place, backings, count, total, marks, false, s, false) < total
 }
 
 // A rejection, which decides.
@@ -165,7 +175,7 @@ fn rejected(reason: Reason) -> Tried
 fn before_reserve(
     file: &[u8],
     place: usize,
-    debits: &[u16],
+    backings: &[u16],
     count: usize,
     total: usize,
     marks: Marks,
@@ -173,7 +183,7 @@ fn before_reserve(
     fundings: &[u16],
     fundings_count: usize,
 ) -> Tried
-    requires tabled { ⌜ Tabled (now file) place (now debits) count total ⌝ }
+    requires tabled { ⌜ Tabled (now file) place (now backings) count total ⌝ }
     requires fundings { ⌜ Fundings (now file) (now fundings) «fundings_count» ⌝ }
     ensures { λ r. ⌜ r ≡ tried (beforeReserve (marksOf (backingsOf (now (file .entry)) place) marks) (front (now (s .entry)))) ⌝ }
 {
@@ -183,7 +193,7 @@ fn before_reserve(
     let equal = by_backing(
         file,
         place,
-        debits,
+        backings,
         count,
         total,
         marks,
@@ -195,13 +205,13 @@ fn before_reserve(
     if let Tried::Decided { answer } = equal {
         return Tried::Decided { answer: answer };
     }
-    if is_taken(file, place, debits, count, total, marks, s) {
+    if is_taken(file, place, backings, count, total, marks, s) {
         return rejected(Reason::AmountTaken);
     }
     by_backing(
         file,
         place,
-        debits,
+        backings,
         count,
         total,
         marks,
@@ -216,7 +226,7 @@ fn before_reserve(
 fn by_reserve(
     file: &[u8],
     place: usize,
-    debits: &[u16],
+    backings: &[u16],
     count: usize,
     total: usize,
     marks: Marks,
@@ -230,7 +240,7 @@ fn by_reserve(
     fundings_count: usize,
     known: &mut [u16],
 ) -> Answer
-    requires { ⌜ Prepared (now file) place (now debits) count total (now asked) «asked_count» k (now candidates) «candidate_count» (now fundings) «fundings_count» (now known) (now s) ⌝ }
+    requires { ⌜ Prepared (now file) place (now backings) count total (now asked) «asked_count» k (now candidates) «candidate_count» (now fundings) «fundings_count» (now known) (now s) ⌝ }
     ensures answers { λ r. ⌜ r ≡ coded (byReserve (fields (now (file .entry))) (entryOf (now (file .entry)) place) (marksOf (backingsOf (now (file .entry)) place) marks) (front (now (s .entry)))) ⌝ }
     ensures right { λ r. ⌜ Right (now (file .entry)) (now (asked .entry)) «asked_count» (now (known .exit)) ⌝ }
 {
@@ -273,7 +283,7 @@ fn by_reserve_at(marks: Marks, index: usize) -> Answer
 fn cover_payout(
     file: &[u8],
     place: usize,
-    debits: &[u16],
+    backings: &[u16],
     count: usize,
     total: usize,
     marks: Marks,
@@ -287,14 +297,14 @@ fn cover_payout(
     fundings_count: usize,
     known: &mut [u16],
 ) -> Answer
-    requires { ⌜ Prepared (now file) place (now debits) count total (now asked) «asked_count» k (now candidates) «candidate_count» (now fundings) «fundings_count» (now known) (now s) ⌝ }
+    requires { ⌜ Prepared (now file) place (now backings) count total (now asked) «asked_count» k (now candidates) «candidate_count» (now fundings) «fundings_count» (now known) (now s) ⌝ }
     ensures answers { λ r. ⌜ r ≡ coded (answer (fields (now (file .entry))) (entryOf (now (file .entry)) place) (marksOf (backingsOf (now (file .entry)) place) marks) (front (now (s .entry)))) ⌝ }
     ensures right { λ r. ⌜ Right (now (file .entry)) (now (asked .entry)) «asked_count» (now (known .exit)) ⌝ }
 {
     let found = before_reserve(
         file,
         place,
-        debits,
+        backings,
         count,
         total,
         marks,
@@ -308,7 +318,7 @@ fn cover_payout(
     by_reserve(
         file,
         place,
-        debits,
+        backings,
         count,
         total,
         marks,
@@ -345,7 +355,7 @@ fn with_marks(marks: Marks, count: usize, answer: Answer) -> Answered
 pub fn answer_payout(
     file: &[u8],
     place: usize,
-    debits: &[u16],
+    backings: &[u16],
     count: usize,
     total: usize,
     marks: Marks,
@@ -359,7 +369,7 @@ pub fn answer_payout(
     fundings_count: usize,
     known: &mut [u16],
 ) -> Answered
-    requires prepared { ⌜ Prepared (now file) place (now debits) count total (now asked) «asked_count» k (now candidates) «candidate_count» (now fundings) «fundings_count» (now known) (now s) ⌝ }
+    requires prepared { ⌜ Prepared (now file) place (now backings) count total (now asked) «asked_count» k (now candidates) «candidate_count» (now fundings) «fundings_count» (now known) (now s) ⌝ }
     requires room { ⌜ marks .uses < 64 ⌝ }
     ensures answers { λ r. ⌜ AnswersFor (fields (now (file .entry))) (entryOf (now (file .entry)) place) (backingsOf (now (file .entry)) place) marks (front (now (s .entry))) r ⌝ }
     ensures uses { λ r. ⌜ r .marks .uses ≤ marks .uses + 1 ⌝ }
@@ -368,7 +378,7 @@ pub fn answer_payout(
     let answer = cover_payout(
         file,
         place,
-        debits,
+        backings,
         count,
         total,
         marks,

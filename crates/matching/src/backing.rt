@@ -1,16 +1,16 @@
 // SPDX-License-Identifier: Apache-2.0 OR MIT
-// A payout's token and amount, and the backings of an entry by number: backing i is debit i, whose call stands at the i-th
-// place of a table, and behind the debits an asset parameter of the entry at a place of the file.
+// A payout's token and amount, and the backings of an entry by number: backing i is debit i, and behind the debits an asset
+// parameter. It stands in the file at the i-th place of a table, the call of a debit and the parameter itself.
 use bounds::backing_eq;
 use bounds::bounded_by;
 use fields::bytes::same_bytes;
 use fields::bytes::skip;
 use fields::front::part_of;
 use fields::table::number_at;
+use questions::state::name_of;
 use tokens::ledger::funding_token;
 use tokens::set::tokens_differ;
 use tokens::token::admitted_inflow_token;
-use walking::parameters::asset_parameter;
 use walking::peel::peel;
 use walking::shape::ident;
 use walking::shape::method;
@@ -28,7 +28,7 @@ ghost use Rattle.bounds.specs.Backing.{backingField};
 ghost use Rattle.tokens.specs.Tokens.{differ};
 ghost use Rattle.tokens.specs.Fundings.{Fundings};
 ghost use Rattle.matching.specs.Matching.{payoutToken, payoutAmount};
-ghost use Rattle.matching.specs.Tables.{amountAt, tokenAt};
+ghost use Rattle.matching.specs.Tables.{Named, amountAt, tokenAt};
 
 // The token of the payout at the front of s: its first argument, peeled, if an identifier.
 pub fn payout_token(s: &[u8]) -> &[u8]
@@ -61,46 +61,53 @@ fn debit_amount(s: &[u8]) -> &[u8]
 fn backing_part<'a>(
     file: &'a [u8],
     place: usize,
-    debits: &[u16],
+    backings: &[u16],
     count: usize,
     i: usize,
 ) -> &'a [u8]
-    ensures { λ r. ⌜ backingField (not (ltb i count)) (now r) ≡ amountAt (now (file .entry)) place (now (debits .entry)) count i ⌝ }
+    requires { ⌜ Named (now file) place (now backings) count i ⌝ }
+    ensures { λ r. ⌜ backingField (not (ltb i count)) (now r) ≡ amountAt (now (file .entry)) place (now (backings .entry)) count i ⌝ }
 {
     if i < count {
-        return debit_amount(skip(file, number_at(debits, i)));
+        return debit_amount(skip(file, number_at(backings, i)));
     }
-    asset_parameter(skip(file, place), i - count)
+    name_of(skip(file, number_at(backings, i)))
 }
 
 // Whether the amount of backing number i equals the expression at the front of s. Every comparison of amounts is this one.
 pub fn backing_equals(
     file: &[u8],
     place: usize,
-    debits: &[u16],
+    backings: &[u16],
     count: usize,
     i: usize,
     s: &[u8],
 ) -> bool
-    ensures { λ r. ⌜ r ≡ exprEq (amountAt (now (file .entry)) place (now (debits .entry)) count i) (front (now (s .entry))) ⌝ }
+    requires { ⌜ Named (now file) place (now backings) count i ⌝ }
+    ensures { λ r. ⌜ r ≡ exprEq (amountAt (now (file .entry)) place (now (backings .entry)) count i) (front (now (s .entry))) ⌝ }
 {
-    backing_eq(backing_part(file, place, debits, count, i), !(i < count), s)
+    backing_eq(
+        backing_part(file, place, backings, count, i),
+        !(i < count),
+        s,
+    )
 }
 
 // Whether backing number i bounds the expression at the front of s.
 pub fn backing_bounds(
     file: &[u8],
     place: usize,
-    debits: &[u16],
+    backings: &[u16],
     count: usize,
     i: usize,
     s: &[u8],
 ) -> bool
-    ensures { λ r. ⌜ r ≡ boundedByBacking (front (now (s .entry))) (amountAt (now (file .entry)) place (now (debits .entry)) count i) false ⌝ }
+    requires { ⌜ Named (now file) place (now backings) count i ⌝ }
+    ensures { λ r. ⌜ r ≡ boundedByBacking (front (now (s .entry))) (amountAt (now (file .entry)) place (now (backings .entry)) count i) false ⌝ }
 {
     bounded_by(
         s,
-        backing_part(file, place, debits, count, i),
+        backing_part(file, place, backings, count, i),
         !(i < count),
         false,
     )
@@ -110,7 +117,7 @@ pub fn backing_bounds(
 pub fn backing_token<'a>(
     file: &'a [u8],
     place: usize,
-    debits: &[u16],
+    backings: &[u16],
     count: usize,
     i: usize,
     fundings: &[u16],
@@ -118,10 +125,10 @@ pub fn backing_token<'a>(
 ) -> &'a [u8]
     requires small { ⌜ length (now file) ≤ 32768 ⌝ }
     requires fundings { ⌜ Fundings (now file) (now fundings) «fundings_count» ⌝ }
-    ensures { λ r. ⌜ now r ≡ tokenAt (now (file .entry)) place (now (debits .entry)) count i ⌝ }
+    ensures { λ r. ⌜ now r ≡ tokenAt (now (file .entry)) place (now (backings .entry)) count i ⌝ }
 {
     if i < count {
-        let debit = skip(file, number_at(debits, i));
+        let debit = skip(file, number_at(backings, i));
         return funding_token(file, receiver(debit), fundings, fundings_count);
     }
     admitted_inflow_token(skip(file, place))
@@ -131,7 +138,7 @@ pub fn backing_token<'a>(
 pub fn tokens_conflict(
     file: &[u8],
     place: usize,
-    debits: &[u16],
+    backings: &[u16],
     count: usize,
     i: usize,
     s: &[u8],
@@ -140,10 +147,10 @@ pub fn tokens_conflict(
 ) -> bool
     requires small { ⌜ length (now file) ≤ 32768 ⌝ }
     requires fundings { ⌜ Fundings (now file) (now fundings) «fundings_count» ⌝ }
-    ensures { λ r. ⌜ r ≡ differ (tokenAt (now (file .entry)) place (now (debits .entry)) count i) (payoutToken (front (now (s .entry)))) ⌝ }
+    ensures { λ r. ⌜ r ≡ differ (tokenAt (now (file .entry)) place (now (backings .entry)) count i) (payoutToken (front (now (s .entry)))) ⌝ }
 {
     tokens_differ(
-        backing_token(file, place, debits, count, i, fundings, fundings_count),
+        backing_token(file, place, backings, count, i, fundings, fundings_count),
         payout_token(s),
     )
 }

@@ -11,7 +11,7 @@ ghost use Rattle.fields.specs.Lists.{any};
 ghost use Rattle.fields.specs.Field.{front};
 ghost use Rattle.matching.specs.Matching.{payoutAmount};
 ghost use Rattle.matching.specs.Numbers.{firstFrom, downFrom, markIs};
-ghost use Rattle.matching.specs.Tables.{amountAt, matches, passes};
+ghost use Rattle.matching.specs.Tables.{Tabled, Named, amountAt, matches, passes};
 ghost use Rattle.matching.specs.Standing.{allFree, freeAt, usedAt, without, withUsed};
 
 // Backings by number, at most 64, and the state fields that are used, at most one for each of 64 payouts.
@@ -107,18 +107,19 @@ pub fn is_used(marks: Marks, index: usize) -> bool
 fn backing_matches(
     file: &[u8],
     place: usize,
-    debits: &[u16],
+    backings: &[u16],
     count: usize,
     s: &[u8],
     bounding: bool,
     i: usize,
 ) -> bool
-    ensures { λ r. ⌜ r ≡ matches bounding (front (now (s .entry))) (amountAt (now (file .entry)) place (now (debits .entry)) count i) ⌝ }
+    requires { ⌜ Named (now file) place (now backings) count i ⌝ }
+    ensures { λ r. ⌜ r ≡ matches bounding (front (now (s .entry))) (amountAt (now (file .entry)) place (now (backings .entry)) count i) ⌝ }
 {
     if bounding {
-        return backing_bounds(file, place, debits, count, i, s);
+        return backing_bounds(file, place, backings, count, i, s);
     }
-    backing_equals(file, place, debits, count, i, peel(s))
+    backing_equals(file, place, backings, count, i, peel(s))
 }
 
 // Whether a mark is set, or is not, as is wanted.
@@ -135,7 +136,7 @@ fn mark_is(wanted: bool, free: bool) -> bool
 fn backing_passes(
     file: &[u8],
     place: usize,
-    debits: &[u16],
+    backings: &[u16],
     count: usize,
     marks: Marks,
     wanted: bool,
@@ -143,12 +144,13 @@ fn backing_passes(
     bounding: bool,
     i: usize,
 ) -> bool
-    ensures { λ r. ⌜ r ≡ passes (now (file .entry)) place (now (debits .entry)) count marks wanted (front (now (s .entry))) bounding i ⌝ }
+    requires { ⌜ Named (now file) place (now backings) count i ⌝ }
+    ensures { λ r. ⌜ r ≡ passes (now (file .entry)) place (now (backings .entry)) count marks wanted (front (now (s .entry))) bounding i ⌝ }
 {
     if !mark_is(wanted, is_free(marks, i)) {
         return false;
     }
-    backing_matches(file, place, debits, count, s, bounding, i)
+    backing_matches(file, place, backings, count, s, bounding, i)
 }
 
 // The number of the first backing that is free or taken, as is wanted, and matches the amount of the payout at the front of s;
@@ -156,7 +158,7 @@ fn backing_passes(
 pub fn first_backing(
     file: &[u8],
     place: usize,
-    debits: &[u16],
+    backings: &[u16],
     count: usize,
     total: usize,
     marks: Marks,
@@ -164,7 +166,8 @@ pub fn first_backing(
     s: &[u8],
     bounding: bool,
 ) -> usize
-    ensures { λ r. ⌜ r ≡ firstFrom (passes (now (file .entry)) place (now (debits .entry)) count marks wanted (payoutAmount (front (now (s .entry)))) bounding) 0 total ⌝ }
+    requires { ⌜ Tabled (now file) place (now backings) count total ⌝ }
+    ensures { λ r. ⌜ r ≡ firstFrom (passes (now (file .entry)) place (now (backings .entry)) count marks wanted (payoutAmount (front (now (s .entry)))) bounding) 0 total ⌝ }
 {
     let amount = payout_amount(s);
     let mut i = 0;
@@ -172,7 +175,7 @@ pub fn first_backing(
         if backing_passes(
             file,
             place,
-            debits,
+            backings,
             count,
             marks,
             wanted,

@@ -16,3 +16,4 @@ pub mod Chosen
 pub mod Written
 pub mod Running
 pub mod Placing
+pub mod Naming

@@ -11,7 +11,7 @@ use lib.Dec.{leb}
 use lib.ListN.{length, getD, take, drop, length-drop, length-map, drop-of-length-le}
 use lib.Seq.{drop-cons}
 use Rattle.fields.specs.Tag.{Call}
-use Rattle.fields.specs.Field.{Fields, Placed, fields, nothing, whole, lengthOf, front, size, sizes}
+use Rattle.fields.specs.Field.{Fields, Placed, fields, nothing, whole, lengthOf, front, parts, size, sizes}
 use Rattle.fields.proofs.Reading.{front-none}
 use Rattle.fields.proofs.Places.{front-size}
 use Rattle.fields.specs.Table.{Listed}
@@ -23,12 +23,14 @@ use Rattle.walking.specs.Walking.{withoutPlaces, bodyExprs, assetParams, debits
 use Rattle.walking.specs.Table.{placedAt, placesOf}
 use Rattle.walking.proofs.Callers.{body-few}
 use Rattle.matching.specs.Tables.{Tabled, entryOf}
-use Rattle.verdict.specs.Calls.{wanted, chosenOf}
+use Rattle.tokens.specs.Fundings.{Standing}
+use Rattle.verdict.specs.Calls.{wanted, chosenOf, assetPlaces}
 use Rattle.verdict.specs.Verdict.{Verdict, refused, matching, backingCount, entryAt, askEntry, entryVerdict, written}
 use Rattle.verdict.specs.Coded.{coded, placedVerdict, Payouts, Calls}
 use Rattle.verdict.specs.declared.entry.Verdict.{Verdict as CodedVerdict}
 use Rattle.verdict.specs.declared.entry.Verdict.the-variants.{Refused}
 use Rattle.verdict.proofs.Called.{wantedIn, wanted-counted, wanted-place, wanted-read, payouts-wanted, debits-wanted}
+use Rattle.verdict.proofs.Naming.{front-stays, name-there}
 use Rattle.verdict.proofs.Asking.{ninth, tenth, entry-missing, entry-counted, entry-there}
 
 -- Questions 11 and 12, and the matching
@@ -73,14 +75,20 @@ module _ (file : List ℕ) (place : ℕ) (calls : List ℕ) (count : ℕ) (l : C
     unfolding placedVerdict
     past-twelfth lent g = cc (backings-counted, not-false (leb (r + m) 64) h, le-leb (3 * length (payouts (entryOf file place))) lent (omega (arith, g, p .counted)))
 
-    pub debits-tabled : length zeros ≡ 64 → Tabled file place table r (r + m)
-    debits-tabled w =
+    pub debits-standing : Standing file place r
+    debits-standing = record { short = l .small; within = l .inside; few = omega (arith, few) }
+
+    pub backings-tabled : length zeros ≡ 64 → length table ≡ length zeros → (last : List ℕ) (k : ℕ) → Listed (assetPlaces (place + 3) (parts (front (drop place file)))) table r last k →
+        Tabled file place last r (r + m)
+    backings-tabled w v last k q =
+        let room : r + length (assetParams (entryOf file place)) ≤ length table = omega (arith, w, v, few, e) in
         record {
           small = l .small;
-          listed = wanted-read file place false (omega (arith, l .small)) calls count (l .listed) zeros table r chosen (omega (arith, w, few)) ∙ debits-wanted here;
+          listed = rw (front-stays file place table r last k q room) (wanted-read file place false (omega (arith, l .small)) calls count (l .listed) zeros table r chosen (omega (arith, w, few)) ∙ debits-wanted here);
           counted = debits-counted;
           all = rw e;
           few = few;
+          named = λ i h. record { name = λ g. name-there file place table r last k q room i (omega (arith, h, e)) g };
         }
 
     -- what is told and what is left, past question 12
@@ -141,6 +149,7 @@ module _ (file : List ℕ) (short : length file ≤ 32768) (n : ℕ) (r : List �
     calls-all same =
         record {
           small = short;
+          inside = omega (arith, f);
           listed = listed-front (placesOf Call (bodyExprs (placedAt file place))) zeros calls count l (omega (arith, few-listed, k));
           within = calls-within same;
         }

@@ -56,5 +56,6 @@ placedVerdict model entry lent =
 -- a table holds the places of the calls in the body of the entry at a place
 pub record Calls (file : List ℕ) (place : ℕ) (table : List ℕ) (count : ℕ) : Type 0 where
   pub small : length file ≤ 32768
+  pub inside : place ≤ length file
   pub listed : take count table ≡ placesOf Call (bodyExprs (placedAt file place))
   pub within : count ≤ length table

@@ -1,6 +1,7 @@
 // SPDX-License-Identifier: Apache-2.0 OR MIT
 // The verdict on an entry: questions 9 to 12, and then payout by payout.
 use super::calls::choose;
+use super::calls::list_parameters;
 use super::sheet::copy_sheet;
 use super::sheet::write_cover;
 use fields::bytes::skip;
@@ -135,12 +136,12 @@ fn match_payouts(
     place: usize,
     payouts: &[u16],
     payout_count: usize,
-    debits: &[u16],
+    backings: &[u16],
     debit_count: usize,
     total: usize,
     covers: &mut [u8],
 ) -> Verdict
-    requires tabled { ⌜ Tabled (now file) place (now debits) «debit_count» total ⌝ }
+    requires tabled { ⌜ Tabled (now file) place (now backings) «debit_count» total ⌝ }
     requires listed { ⌜ Payouts (now file) place (now payouts) «payout_count» ⌝ }
     requires room { ⌜ 3 * «payout_count» ≤ length (now covers) ⌝ }
     ensures answer { λ r. ⌜ r ≡ coded (matching (fields (now (file .entry))) (entryOf (now (file .entry)) place)) ⌝ }
@@ -165,7 +166,7 @@ fn match_payouts(
         let answered = answer_payout(
             file,
             place,
-            debits,
+            backings,
             debit_count,
             total,
             marks,
@@ -233,8 +234,8 @@ fn backed_verdict(
     ensures answer { λ r. ⌜ r ≡ coded (placedVerdict (fields (now (file .entry))) (placedAt (now (file .entry)) place) (length (now (covers .entry)))) ⌝ }
     ensures covers { λ r. ⌜ now (covers .exit) ≡ written (placedVerdict (fields (now (file .entry))) (placedAt (now (file .entry)) place) (length (now (covers .entry)))) (now (covers .entry)) ⌝ }
 {
-    let mut debits = [0u16; 64];
-    let debit_count = choose(file, calls, count, false, &mut debits);
+    let mut backings = [0u16; 64];
+    let debit_count = choose(file, calls, count, false, &mut backings);
     let parameter_count = count_asset_parameters(skip(file, place));
     if are_many(debit_count, parameter_count) {
         return Verdict::Refused {
@@ -249,12 +250,13 @@ fn backed_verdict(
             place: 0,
         };
     }
+    let listed = list_parameters(file, place, &mut backings, debit_count);
     match_payouts(
         file,
         place,
         payouts,
         payout_count,
-        &debits,
+        &backings,
         debit_count,
         total,
         covers,

@@ -12,6 +12,7 @@ backing-part-spec =
     (λ c κs. search needs)  -- skip-requires
     (λ c κs. search needs)  -- debit-amount-requires
     (λ c. search debit-part)  -- returns
+    (λ c κs. search needs)  -- number-at-requires-2
     (λ c κs. search needs)  -- skip-requires-2
-    (λ c κs. search needs)  -- asset-parameter-requires
+    (λ c κs. search needs)  -- name-of-requires
     (λ c. search parameter-part))  -- returns-2

@@ -5,7 +5,7 @@ use borrow.Author.Needs.{needs}
 use Rattle.fields.specs.Field.{front}
 use Rattle.matching.specs.Matching.{payoutAmount}
 use Rattle.matching.specs.Tables.{passes}
-use Rattle.matching.proofs.Marking.{Searching, searching-all, searching-none, searching-found, searching-on, passes-amount}
+use Rattle.matching.proofs.Marking.{Searching, searching-all, searching-none, searching-found, searching-on, passes-amount, tabled-named}
 use Rattle.matching.proofs.marks.first_backing.Statement.{statement}
 use Rattle.matching.proofs.marks.first_backing.Tie as tie
 
@@ -17,7 +17,7 @@ first-backing-spec =
     (λ file place debits count total marks wanted s bounding amount i₀ i. total - i)  -- μ-loop
     (λ c κs. search needs)  -- payout-amount-requires
     (λ c. search searching-all)  -- loop-holds
-    (λ c κs. search needs)  -- backing-passes-requires
+    (λ c κs. search tabled-named)  -- backing-passes-requires
     (λ c. search (searching-found, passes-amount))  -- returns
     (λ c. omega arith)  -- add-i
     (λ c. omega arith)  -- loop-less

@@ -2,7 +2,7 @@
 use native.Mathlib.Omega.{arith}
 use borrow.Author.Needs.{needs}
 use Rattle.fields.proofs.Told.{told}
-use Rattle.verdict.proofs.Placing.{eleventh-place, twelfth-place, debits-tabled, sum-fits, told-past, left-past, told-refused, left-refused}
+use Rattle.verdict.proofs.Placing.{eleventh-place, twelfth-place, debits-standing, backings-tabled, sum-fits, told-past, left-past, told-refused, left-refused}
 use Rattle.verdict.proofs.entry.backed_verdict.Statement.{statement}
 use Rattle.verdict.proofs.entry.backed_verdict.Tie as tie
 
@@ -25,10 +25,12 @@ backed-verdict-spec =
       told-refused _ 12 _ (twelfth-place _ _ _ _ (c .before .before .before .before .before .before .before .before .before .before .before .before .pre .0) _ _ (c .before .before .before .before .before .before .before .before .before .before .before .before .pre .1) _ _ _ (c .before .before .before .before .before .before .choose .ensures) _ (c .before .before .before .before .skip .ensures) _ (c .before .before .before .count-asset-parameters .ensures) (search (told, needs)) _ (search needs)),
       left-refused _ 12 _ (twelfth-place _ _ _ _ (c .before .before .before .before .before .before .before .before .before .before .before .before .pre .0) _ _ (c .before .before .before .before .before .before .before .before .before .before .before .before .pre .1) _ _ _ (c .before .before .before .before .before .before .choose .ensures) _ (c .before .before .before .before .skip .ensures) _ (c .before .before .before .count-asset-parameters .ensures) (search (told, needs)) _ (search needs)) _,
     ))  -- returns-2
+    (λ c. search needs)  -- slice-aggregate-list-parameters
+    (λ c κs. debits-standing _ _ _ _ (c .before .before .before .before .before .before .before .before .before .before .before .before .before .pre .0) _ _ (c .before .before .before .before .before .before .before .before .before .before .before .before .before .pre .1) _ _ _ (c .before .before .before .before .before .before .before .choose .ensures) _ (c .before .before .before .before .before .skip .ensures) _ (c .before .before .before .before .count-asset-parameters .ensures) (search (told, needs)))  -- list-parameters-requires
     (λ c. search needs)  -- slice-aggregate-match-payouts
-    (λ c κs. (debits-tabled _ _ _ _ (c .before .before .before .before .before .before .before .before .before .before .before .before .before .before .pre .0) _ _ (c .before .before .before .before .before .before .before .before .before .before .before .before .before .before .pre .1) _ _ _ (c .before .before .before .before .before .before .before .before .choose .ensures) _ (c .before .before .before .before .before .before .skip .ensures) _ (c .before .before .before .before .before .count-asset-parameters .ensures) (search (told, needs)) (search needs), (search needs, search needs)))  -- match-payouts-requires
+    (λ c κs. (backings-tabled _ _ _ _ (c .before .before .before .before .before .before .before .before .before .before .before .before .before .before .before .before .before .pre .0) _ _ (c .before .before .before .before .before .before .before .before .before .before .before .before .before .before .before .before .before .pre .1) _ _ _ (c .before .before .before .before .before .before .before .before .before .before .before .choose .ensures) _ (c .before .before .before .before .before .before .before .before .before .skip .ensures) _ (c .before .before .before .before .before .before .before .before .count-asset-parameters .ensures) (search (told, needs)) (search needs) (search needs) _ _ (c .before .before .before .list-parameters .ensures), (search needs, search needs)))  -- match-payouts-requires
     (λ c. search needs)  -- same-length
     (λ c. (
-      told-past _ _ _ _ (c .before .before .before .before .before .before .before .before .before .before .before .before .before .before .before .before .before .pre .0) _ _ (c .before .before .before .before .before .before .before .before .before .before .before .before .before .before .before .before .before .pre .1) _ _ _ (c .before .before .before .before .before .before .before .before .before .before .before .choose .ensures) _ (c .before .before .before .before .before .before .before .before .before .skip .ensures) _ (c .before .before .before .before .before .before .before .before .count-asset-parameters .ensures) (search (told, needs)) (c .before .before .before .before .before .before .before .before .before .before .before .before .before .before .before .before .before .args .covers .now) (search needs) _ (search needs),
-      left-past _ _ _ _ (c .before .before .before .before .before .before .before .before .before .before .before .before .before .before .before .before .before .pre .0) _ _ (c .before .before .before .before .before .before .before .before .before .before .before .before .before .before .before .before .before .pre .1) _ _ _ (c .before .before .before .before .before .before .before .before .before .before .before .choose .ensures) _ (c .before .before .before .before .before .before .before .before .before .skip .ensures) _ (c .before .before .before .before .before .before .before .before .count-asset-parameters .ensures) (search (told, needs)) (c .before .before .before .before .before .before .before .before .before .before .before .before .before .before .before .before .before .args .covers .now) (search needs) _ (search needs),
+      told-past _ _ _ _ (c .before .before .before .before .before .before .before .before .before .before .before .before .before .before .before .before .before .before .before .before .pre .0) _ _ (c .before .before .before .before .before .before .before .before .before .before .before .before .before .before .before .before .before .before .before .before .pre .1) _ _ _ (c .before .before .before .before .before .before .before .before .before .before .before .before .before .before .choose .ensures) _ (c .before .before .before .before .before .before .before .before .before .before .before .before .skip .ensures) _ (c .before .before .before .before .before .before .before .before .before .before .before .count-asset-parameters .ensures) (search (told, needs)) (c .before .before .before .before .before .before .before .before .before .before .before .before .before .before .before .before .before .before .before .before .args .covers .now) (search needs) _ (search needs),
+      left-past _ _ _ _ (c .before .before .before .before .before .before .before .before .before .before .before .before .before .before .before .before .before .before .before .before .pre .0) _ _ (c .before .before .before .before .before .before .before .before .before .before .before .before .before .before .before .before .before .before .before .before .pre .1) _ _ _ (c .before .before .before .before .before .before .before .before .before .before .before .before .before .before .choose .ensures) _ (c .before .before .before .before .before .before .before .before .before .before .before .before .skip .ensures) _ (c .before .before .before .before .before .before .before .before .before .before .before .count-asset-parameters .ensures) (search (told, needs)) (c .before .before .before .before .before .before .before .before .before .before .before .before .before .before .before .before .before .before .before .before .args .covers .now) (search needs) _ (search needs),
     )))  -- returns-3
