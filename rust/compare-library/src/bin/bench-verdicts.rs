@@ -13,8 +13,18 @@ const EACH_ENTRY: Measure = Measure {
     time: each_entry,
 };
 
+/// The proved listing: the questions about the file are asked once.
+const LISTING: Measure = Measure {
+    name: "listing",
+    time: listing,
+};
+
 fn main() -> ExitCode {
-    bench::run(&[FROM_BYTES, READY_TREE, EACH_ENTRY])
+    bench::run(&[FROM_BYTES, READY_TREE, LISTING, EACH_ENTRY])
+}
+
+fn listing(file: &[u8]) -> Duration {
+    repeated(|| zevdrak::listing(black_box(file)).len())
 }
 
 fn each_entry(file: &[u8]) -> Duration {
