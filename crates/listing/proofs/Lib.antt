@@ -8,3 +8,4 @@ pub mod Sparing
 pub mod Deciding
 pub mod Entries
 pub mod Examples
+pub mod Fine

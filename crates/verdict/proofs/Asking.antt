@@ -36,11 +36,11 @@ module _ (l : List Placed) (n : ℕ) (d : Placed) where
   none-shown : [] ≡ take 1 (drop n l) → length l ≤ n
   none-shown e = let h : 0 ≡ length (take 1 (drop n l)) = ap length e in omega (arith, rw (length-take, length-drop) at h)
 
-every-at : (P : Placed → Type 0) (l : List Placed) → Every P l → (n : ℕ) (d : Placed) → n < length l → P (getD l n d)
+pub every-at : (P : Placed → Type 0) (l : List Placed) → Every P l → (n : ℕ) (d : Placed) → n < length l → P (getD l n d)
 every-at P (p ∷ l) e zero d h = e .0
 every-at P (p ∷ l) e (suc n) d h = every-at P l (e .1) n d (omega (arith, h))
 
-entries-stand : (file : List ℕ) → Every (Stands file) (entries (fields file))
+pub entries-stand : (file : List ℕ) → Every (Stands file) (entries (fields file))
 unfolding entries placedFrom
 entries-stand file =
     let all : Every (Stands file) (placed 0 (fields file)) = rw (take-all (length file) file (omega arith)) at (row-stands file 0 (length file)) in
