@@ -35,7 +35,7 @@ module _ (cs : List Cover) (rest : List ℕ) where
   abbrev covers : List ℕ
   covers = sheet cs ++ rest
 
-  one-cover : (i : ℕ) → i < length cs → coverLineAt covers i ≡ coverLine (i, getD cs i (reserve 0))
+  pub one-cover : (i : ℕ) → i < length cs → coverLineAt covers i ≡ coverLine (i, getD cs i (reserve 0))
   unfolding coverLineAt coverLine
   one-cover i h = rw (kind-at cs rest i (reserve 0) h, index-at cs rest i (reserve 0) h)
 

@@ -29,11 +29,11 @@ enough (suc k) (suc j) n h g = by (enough k j (n / 10)) (ltb n 10) refl
         digits-more k n l ∙ ap (λ ds. ds ++ (0x30 + n % 10) ∷ []) (same (omega (arith, h, l)) (omega (arith, g, l))) ∙ sym (digits-more j n l)
 
 module _ (n : ℕ) where
-  one-digit : n < 10 → decimal n ≡ (0x30 + n % 10) ∷ []
+  pub one-digit : n < 10 → decimal n ≡ (0x30 + n % 10) ∷ []
   unfolding decimal
   one-digit h = digits-one n n h ∙ ap (λ d. (0x30 + d) ∷ []) (omega (arith, h))
 
-  more-digits : 10 ≤ n → decimal n ≡ decimal (n / 10) ++ (0x30 + n % 10) ∷ []
+  pub more-digits : 10 ≤ n → decimal n ≡ decimal (n / 10) ++ (0x30 + n % 10) ∷ []
   unfolding decimal
   more-digits h = digits-more n n h ∙ ap (λ ds. ds ++ (0x30 + n % 10) ∷ []) (enough n (suc (n / 10)) (n / 10) (omega (arith, h)) (omega arith))
 

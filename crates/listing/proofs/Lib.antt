@@ -9,3 +9,4 @@ pub mod Deciding
 pub mod Entries
 pub mod Examples
 pub mod Fine
+pub mod Enough

@@ -67,7 +67,7 @@ module _ (model : Fields) (n lent : ℕ) (cs : List Cover) (e : entryVerdict mod
       go passes h = refl
       go (fails k p) h = absurd (false≢true (cc))
 
-  accepted-matched : matching model (entryAt model n .this) ≡ accepted cs
+  pub accepted-matched : matching model (entryAt model n .this) ≡ accepted cs
   unfolding entryVerdict
   accepted-matched = cc accepted-passes
 
