@@ -1,18 +1,15 @@
 -- Asset parameters are met one after the other: those that are left behind the one at hand are all that are left.
-use Prim.Native.Nat.{ℕ, suc, _+_, _-_, _^_, _≤_, _<_}
-use mathlib.Core.Path.{_≡_, refl, sym, ap, _∙_}
-use mathlib.Core.Bool.{Bool, true, false, _&&_}
+use Prim.Native.Nat.{ℕ, _+_, _^_, _≤_, _<_}
+use mathlib.Core.Path.{_≡_, ap}
+use mathlib.Core.Bool.{true, false}
 use mathlib.Core.List.{List, [], _∷_, map}
 use native.Mathlib.Omega.{arith}
-use borrow.Author.Tests.{ltb-true, ltb-false}
 use mir.Syntax.{w64}
 use mir.Val.{Fits}
-use lib.Dec.{ltb}
-use lib.ListN.{length, getD, take, drop, length-take, length-drop}
+use lib.ListN.{length, take, drop, length-take, length-drop}
 use Rattle.fields.specs.Lists.{any, sameBytes}
-use Rattle.fields.specs.Field.{fields, whole, after, front, parts, nth, sizes}
-use Rattle.fields.proofs.Bools.{and-left, and-right}
-use Rattle.fields.proofs.Reading.{front-none, after-less, after-shorter}
+use Rattle.fields.specs.Field.{fields, whole, after, front, parts, sizes}
+use Rattle.fields.proofs.Reading.{after-less, after-shorter}
 use Rattle.questions.specs.Model.{nameOf, params}
 use Rattle.walking.specs.Walking.{assetParams}
 use Rattle.walking.specs.Assets.{assetsIn, assetsFrom}
@@ -83,35 +80,3 @@ module _ (s t : List ℕ) where
             room = omega (arith, i .room, after-less t y w e);
             left = omega (arith, rw (names-next t y u w e f) at (i .left));
           }
-
--- going to the n-th
-abbrev pub Ahead : List ℕ → ℕ → List ℕ → ℕ → Type 0
-Ahead s n t left = getD (map nameOf (assetsFrom t)) left [] ≡ getD (assetParams (front s)) n []
-
-pub ahead-first : (s : List ℕ) (n : ℕ) (x t : List ℕ) → fields x ≡ parts (front s) → assetsIn (fields x) ≡ assetsFrom t → Ahead s n t n
-ahead-first s n x t e f = ap (λ l. getD l n []) (assets-all s x t e f)
-
-module _ (s : List ℕ) (n : ℕ) (t : List ℕ) (left : ℕ) (i : Ahead s n t left) (v : Bool) (o : v ≡ whole t) where
-  module _ (h : ltb 0 left && v ≡ true) where
-    goes-on : (0 < left) × (whole t ≡ true)
-    goes-on = (ltb-true 0 left (and-left (ltb 0 left) v h), sym o ∙ and-right (ltb 0 left) v h)
-
-    pub ahead-some : 1 ≤ left
-    ahead-some = goes-on .0
-
-    pub ahead-less : left - 1 < left
-    ahead-less = omega (arith, goes-on .0)
-
-    pub ahead-one : (y u : List ℕ) → y ≡ after t → assetsIn (fields y) ≡ assetsFrom u → Ahead s n u (left - 1)
-    ahead-one y u e f =
-        let k : left ≡ suc (left - 1) = omega (arith, goes-on .0) in
-        rw (names-next t y u (goes-on .1) e f, k) at i
-
-  pub ahead-here : ltb 0 left && v ≡ false → (x : List ℕ) → x ≡ nameOf (front t) → x ≡ getD (assetParams (front s)) n []
-  unfolding nth
-  ahead-here h x e = go (ltb 0 left) (whole t) refl refl
-    where
-      go : (j k : Bool) → ltb 0 left ≡ j → whole t ≡ k → x ≡ getD (assetParams (front s)) n []
-      go j false p w = e ∙ ap (λ f. nameOf f) (front-none t w) ∙ rw (names-none t w) at i
-      go false true p w = let z : left ≡ 0 = omega (arith, ltb-false 0 left p) in e ∙ rw (w, z) at i
-      go true true p w = cc

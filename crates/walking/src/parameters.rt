@@ -10,9 +10,8 @@ use fields::front::text_of;
 use fields::tag::PARAMETER;
 use questions::state::name_of;
 ghost use mathlib.Core.Path.{_≡_};
-ghost use mathlib.Core.List.{[]};
 ghost use Prim.Native.Nat.{_≤_};
-ghost use lib.ListN.{getD, length};
+ghost use lib.ListN.{length};
 ghost use Rattle.fields.specs.Lists.{any, sameBytes};
 ghost use Rattle.fields.specs.Field.{fields, front};
 ghost use Rattle.walking.specs.Walking.{isAssetParameter, assetParams};
@@ -68,18 +67,4 @@ pub fn count_asset_parameters(s: &[u8]) -> usize
         n += 1;
     }
     n
-}
-
-// The name of its n-th asset parameter, counted from 0; no bytes where there is none.
-pub fn asset_parameter(s: &[u8], n: usize) -> &[u8]
-    ensures { λ r. ⌜ now r ≡ getD (assetParams (front (now (s .entry)))) n [] ⌝ }
-{
-    let mut t = first_asset_parameter(parts_of(s));
-    let mut left = n;
-    while (0 < left) & is_whole(t) {
-        let u = first_asset_parameter(after_front(t));
-        t = u;
-        left -= 1;
-    }
-    name_of(t)
 }
