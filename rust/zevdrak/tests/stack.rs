@@ -7,7 +7,7 @@ use zevdrak::{bounded_by_backing, check_file, expr_eq, verdict, Refusal, Verdict
 const STACK: usize = 64 * 1024;
 /// The verdict has tables of its own: the calls of a body, the guards of an
 /// entry, the calls that fund a map.
-const VERDICT_STACK: usize = 256 * 1024;
+const VERDICT_STACK: usize = 128 * 1024;
 const NOT: u8 = 0x38;
 const CALL: u8 = 0x3B;
 const CALLER: [u8; 3] = [0x34, 0, 0];
