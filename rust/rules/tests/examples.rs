@@ -32,6 +32,8 @@ fn every_example_has_its_listing() {
     }
     assert!(names.len() >= 17);
     for name in names {
+        let file = fs::read(examples().join(&name).with_extension("model"));
+        assert_eq!(file.expect(&name), model(&name), "{name}");
         let expected = fs::read_to_string(examples().join(&name).with_extension("listing"));
         assert_eq!(
             text(listing(&model(&name))),
