@@ -24,8 +24,8 @@ reason-back conflictAtBounding = refl
 reason-back noReserve = refl
 reason-back reserveUsed = refl
 
-module _ (v : Verdict) (x : CodedVerdict) (e : x ≡ coded v) where
-  module _ (n : ℕ) (h : x ≡ Accepted n) where
+module _ (rest : ℕ) (v : Verdict) (x : CodedVerdict) (e : x ≡ coded rest v) where
+  module _ (n s : ℕ) (h : x ≡ Accepted n s) where
     accepted-numbers : (0 ≡ outcome v) × (n ≡ firstOf v) × (0 ≡ secondOf v)
     unfolding coded outcome firstOf secondOf
     accepted-numbers = go v refl

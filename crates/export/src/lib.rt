@@ -62,7 +62,7 @@ pub extern "C" fn zevdrak_verdict(
     ensures backed { λ r. ⌜ Demand3 (now (file .entry)) entry (now (covers .entry)) (verdict (now (file .entry)) entry (length (now (covers .entry)))) (now (covers .exit)) ⌝ }
 {
     match file_verdict(file, entry, covers) {
-        Verdict::Accepted { payouts } => {
+        Verdict::Accepted { payouts, spare: _ } => {
             *first = payouts;
             *second = 0;
             0

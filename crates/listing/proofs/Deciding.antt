@@ -1,29 +1,35 @@
 -- The lines of an entry by its verdict, and the lines of its covers by their bytes.
 use Prim.Native.Nat.{ℕ, zero, suc, _+_, _-_, _*_, _≤_, _<_}
 use mathlib.Core.Path.{_≡_, refl, sym, ap, _∙_}
-use mathlib.Core.Bool.{false≢true}
+use mathlib.Core.Bool.{true, false≢true}
 use mathlib.Core.List.{List, [], _∷_, _++_, flatMap}
 use native.Mathlib.Omega.{arith}
 use lib.ListN.{length, getD, take, drop, length-take}
 use lib.Seq.{take-all, take-suc}
 use Rattle.fields.specs.Lists.{numbered}
-use Rattle.fields.specs.Field.{Fields}
-use Rattle.questions.specs.Questions.{passes}
+use Rattle.fields.specs.Tag.{Entry}
+use Rattle.fields.specs.Field.{Fields, fields, whole, fromNth}
+use Rattle.questions.specs.Model.{entries}
+use Rattle.questions.specs.Shown.{shown}
+use Rattle.questions.proofs.Accessors.{shown-nth}
+use Rattle.walking.specs.Table.{placedAt}
+use Rattle.matching.specs.Tables.{entryOf}
 use Rattle.matching.specs.Matching.{Cover, Reason}
 use Rattle.matching.specs.Matching.Cover.{reserve}
 use Rattle.matching.specs.declared.answer.Reason.{Reason as CodedReason}
-use Rattle.verdict.specs.Verdict.{Verdict, refused, rejected, accepted, entryAt, askEntry, entryVerdict, kind, index, sheet, written, spare}
+use Rattle.verdict.specs.Verdict.{Verdict, refused, rejected, accepted, entryAt, entryVerdict, kind, index, sheet, written, spare}
 use Rattle.verdict.specs.Claim.{kindAt, indexAt}
-use Rattle.verdict.specs.Coded.{coded}
+use Rattle.verdict.specs.Coded.{coded, placedVerdict}
 use Rattle.verdict.specs.declared.entry.Verdict.{Verdict as CodedVerdict}
 use Rattle.verdict.specs.declared.entry.Verdict.the-variants.{Refused, Rejected, Accepted}
 use Rattle.verdict.proofs.Sheets.{kind-at, index-at}
+use Rattle.verdict.proofs.Placing.{told-placed, left-placed}
 use Rattle.listing.specs.Output.{Written}
 use Rattle.listing.specs.Listing.{refusalLine, acceptedLine, rejectedLine, coverLine, entryLines, below}
 use Rattle.listing.specs.Coded.{coverLineAt}
 use Rattle.listing.proofs.Buffer.{written-then}
 use Rattle.listing.proofs.Repeating.{each-then}
-use Rattle.listing.proofs.Passed.{accepted-passes, accepted-few}
+use Rattle.listing.proofs.Passed.{accepted-few}
 
 -- one more at the end has the next number
 numbered-then : {A : Type 0} (k : ℕ) (l : List A) (x : A) → numbered k (l ++ x ∷ []) ≡ numbered k l ++ (k + length l, x) ∷ []
@@ -55,7 +61,7 @@ module _ (cs : List Cover) (rest : List ℕ) where
   all-covers = first-covers (length cs) (omega arith) ∙ rw (take-all (length cs) cs (omega arith))
 
 -- each case of the verdict as the code gives it
-module _ (model : Fields) (n : ℕ) (v : CodedVerdict) (lent : ℕ) (w : lent ≡ 192) (e : v ≡ coded (entryVerdict model n lent)) where
+module _ (model : Fields) (n : ℕ) (v : CodedVerdict) (lent : ℕ) (e : v ≡ coded (spare (entryAt model n .this)) (entryVerdict model n lent)) where
   as-refused : (k p : ℕ) → v ≡ Refused k p → entryVerdict model n lent ≡ refused k p
   unfolding coded
   as-refused k p f = go (entryVerdict model n lent) refl
@@ -74,44 +80,57 @@ module _ (model : Fields) (n : ℕ) (v : CodedVerdict) (lent : ℕ) (w : lent �
       go (rejected l q) h = (q, cc)
       go (accepted cs) h = absurd (false≢true (cc))
 
-  as-accepted : (k : ℕ) → v ≡ Accepted k → (cs : List Cover) × (entryVerdict model n lent ≡ accepted cs) × (length cs ≡ k)
+  as-accepted : (k s : ℕ) → v ≡ Accepted k s → (cs : List Cover) × (entryVerdict model n lent ≡ accepted cs) × (length cs ≡ k) × (s ≡ spare (entryAt model n .this))
   unfolding coded
-  as-accepted k f = go (entryVerdict model n lent) refl
+  as-accepted k s f = go (entryVerdict model n lent) refl
     where
-      go : (x : Verdict) → entryVerdict model n lent ≡ x → (cs : List Cover) × (x ≡ accepted cs) × (length cs ≡ k)
+      go : (x : Verdict) → entryVerdict model n lent ≡ x → (cs : List Cover) × (x ≡ accepted cs) × (length cs ≡ k) × (s ≡ spare (entryAt model n .this))
       go (refused l q) h = absurd (false≢true (cc))
       go (rejected l q) h = absurd (false≢true (cc))
-      go (accepted cs) h = (cs, refl, cc)
+      go (accepted cs) h = (cs, refl, cc, cc)
 
-  pub refused-lines : (k p : ℕ) → v ≡ Refused k p → (t : List ℕ) (at : ℕ) (u : List ℕ) (r : ℕ) → Written (refusalLine k p) t at u r → Written (entryLines model n) t at u r
+-- the lines of the entry at its place
+module _ (file : List ℕ) (n : ℕ) (t : List ℕ) (here : t ≡ fromNth Entry Entry n file) (there : whole t ≡ true) (place : ℕ) (stands : place ≡ length file - length t)
+    (covers : List ℕ) (w : length covers ≡ 192) (v : CodedVerdict) (told : v ≡ coded (spare (entryOf file place)) (placedVerdict (fields file) (placedAt file place) (length covers))) where
+  abbrev model : Fields
+  model = fields file
+
+  abbrev lent : ℕ
+  lent = length covers
+
+  nth-shown : shown file t ≡ take 1 (drop n (entries model))
+  unfolding entries
+  nth-shown = shown-nth Entry Entry n file t here
+
+  e : v ≡ coded (spare (entryAt model n .this)) (entryVerdict model n lent)
+  e = told-placed file n t nth-shown there place stands covers v told
+
+  pub refused-lines : (k p : ℕ) → v ≡ Refused k p → (b : List ℕ) (at : ℕ) (u : List ℕ) (r : ℕ) → Written (refusalLine k p) b at u r → Written (entryLines model n) b at u r
   unfolding entryLines
-  refused-lines k p f t at u r x = let h : entryVerdict model n 192 ≡ refused k p = ap (entryVerdict model n) (sym w) ∙ as-refused k p f in rw (entryLines, h) x
+  refused-lines k p f b at u r x = let h : entryVerdict model n 192 ≡ refused k p = ap (entryVerdict model n) (sym w) ∙ as-refused model n v lent e k p f in rw (entryLines, h) x
 
-  pub rejected-lines : (k : ℕ) (p : CodedReason) → v ≡ Rejected k p → (t : List ℕ) (at : ℕ) (u : List ℕ) (r : ℕ) → Written (rejectedLine n k) t at u r → Written (entryLines model n) t at u r
+  pub rejected-lines : (k : ℕ) (p : CodedReason) → v ≡ Rejected k p → (b : List ℕ) (at : ℕ) (u : List ℕ) (r : ℕ) → Written (rejectedLine n k) b at u r → Written (entryLines model n) b at u r
   unfolding entryLines
-  rejected-lines k p f t at u r x = let (q, g) = as-rejected k p f in let h : entryVerdict model n 192 ≡ rejected k q = ap (entryVerdict model n) (sym w) ∙ g in rw (entryLines, h) x
+  rejected-lines k p f b at u r x = let (q, g) = as-rejected model n v lent e k p f in let h : entryVerdict model n 192 ≡ rejected k q = ap (entryVerdict model n) (sym w) ∙ g in rw (entryLines, h) x
 
-  module _ (k : ℕ) (f : v ≡ Accepted k) where
-    pub accepted-asked : askEntry model n 192 ≡ passes
-    accepted-asked = let (cs, g, i) = as-accepted k f in ap (askEntry model n) (sym w) ∙ accepted-passes model n lent cs g
-
+  module _ (k s : ℕ) (f : v ≡ Accepted k s) where
     pub accepted-limit : k ≤ 64
-    accepted-limit = let (cs, g, i) = as-accepted k f in omega (arith, accepted-few model n lent cs g w, i)
+    accepted-limit = let (cs, g, i, d) = as-accepted model n v lent e k s f in omega (arith, accepted-few model n lent cs g w, i)
 
     -- with its covers at hand
-    accepted-by : (cs : List Cover) → entryVerdict model n lent ≡ accepted cs → length cs ≡ k →
-        (s : ℕ) → s ≡ spare (entryAt model n .this) → (before after : List ℕ) → after ≡ written (entryVerdict model n lent) before →
-        (t : List ℕ) (at : ℕ) (u : List ℕ) (m : ℕ) → Written (acceptedLine n k s) t at u m → (z : List ℕ) (r : ℕ) →
-        Written (flatMap (coverLineAt after) (below k)) u m z r → Written (entryLines model n) t at z r
+    accepted-by : (cs : List Cover) → entryVerdict model n lent ≡ accepted cs → length cs ≡ k → s ≡ spare (entryAt model n .this) →
+        (after : List ℕ) → after ≡ written (entryVerdict model n lent) covers →
+        (b : List ℕ) (at : ℕ) (u : List ℕ) (m : ℕ) → Written (acceptedLine n k s) b at u m → (z : List ℕ) (r : ℕ) →
+        Written (flatMap (coverLineAt after) (below k)) u m z r → Written (entryLines model n) b at z r
     unfolding entryLines written
-    accepted-by cs g i s d before after a t at u m x z r y =
+    accepted-by cs g i d after a b at u m x z r y =
         let h : entryVerdict model n 192 ≡ accepted cs = ap (entryVerdict model n) (sym w) ∙ g in
-        let b : after ≡ sheet cs ++ drop (3 * length cs) before = a ∙ ap (λ v. written v before) g in
+        let c : after ≡ sheet cs ++ drop (3 * length cs) covers = a ∙ ap (λ v. written v covers) g in
         let q : flatMap (coverLineAt after) (below k) ≡ flatMap coverLine (numbered 0 cs) =
-        ap (λ j. flatMap (coverLineAt after) (below j)) (sym i) ∙ rw b (all-covers cs (drop (3 * length cs) before)) in
-        rw (entryLines, h, i, ← d, ← q) (written-then (acceptedLine n k s) t at u m x (flatMap (coverLineAt after) (below k)) z r y)
+        ap (λ j. flatMap (coverLineAt after) (below j)) (sym i) ∙ rw c (all-covers cs (drop (3 * length cs) covers)) in
+        rw (entryLines, h, i, ← d, ← q) (written-then (acceptedLine n k s) b at u m x (flatMap (coverLineAt after) (below k)) z r y)
 
-    pub accepted-lines : (s : ℕ) → s ≡ spare (entryAt model n .this) → (before after : List ℕ) → after ≡ written (entryVerdict model n lent) before →
-        (t : List ℕ) (at : ℕ) (u : List ℕ) (m : ℕ) → Written (acceptedLine n k s) t at u m → (z : List ℕ) (r : ℕ) →
-        Written (flatMap (coverLineAt after) (below k)) u m z r → Written (entryLines model n) t at z r
-    accepted-lines = let (cs, g, i) = as-accepted k f in accepted-by cs g i
+    pub accepted-lines : (after : List ℕ) → after ≡ written (placedVerdict model (placedAt file place) lent) covers →
+        (b : List ℕ) (at : ℕ) (u : List ℕ) (m : ℕ) → Written (acceptedLine n k s) b at u m → (z : List ℕ) (r : ℕ) →
+        Written (flatMap (coverLineAt after) (below k)) u m z r → Written (entryLines model n) b at z r
+    accepted-lines after a = let (cs, g, i, d) = as-accepted model n v lent e k s f in accepted-by cs g i d after (left-placed file n t nth-shown there place stands covers after a)

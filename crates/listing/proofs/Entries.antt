@@ -1,5 +1,5 @@
 -- The listing of a file: a refusal, or the lines of the entries before the n-th, until there is none.
-use Prim.Native.Nat.{ℕ, suc, _+_, _-_, _≤_, _<_}
+use Prim.Native.Nat.{ℕ, suc, _+_, _-_, _*_, _≤_, _<_}
 use mathlib.Core.Path.{_≡_, refl, sym, ap, _∙_}
 use mathlib.Core.Bool.{Bool, true, false}
 use mathlib.Core.List.{List, flatMap}
@@ -7,13 +7,16 @@ use native.Mathlib.Omega.{arith}
 use mir.Syntax.{w64}
 use mir.Val.{Fits}
 use lib.ListN.{length, take, drop}
-use Rattle.fields.specs.Field.{fields, whole}
+use Rattle.fields.specs.Tag.{Entry}
+use Rattle.fields.specs.Field.{fields, whole, after, from, fromNth}
 use Rattle.questions.specs.Model.{entries}
 use Rattle.questions.specs.Questions.{passes, fails, askFile}
 use Rattle.questions.specs.Answers.{asked}
 use Rattle.questions.specs.Shown.{shown}
+use Rattle.questions.proofs.Accessors.{shown-nth}
 use Rattle.questions.specs.declared.check.Answer.{Answer}
 use Rattle.questions.specs.declared.check.Answer.the-variants.{Passes, Refused}
+use Rattle.tokens.specs.Fundings.{Fundings}
 use Rattle.verdict.proofs.Fitting.{short-file}
 use Rattle.verdict.proofs.Asking.{entry-missing, entry-counted}
 use Rattle.listing.specs.Output.{Written}
@@ -21,41 +24,72 @@ use Rattle.listing.specs.Listing.{refusalLine, entryLines, listing, belo
 use Rattle.listing.proofs.Passed.{few-entries}
 use Rattle.listing.proofs.Repeating.{Repeating, repeating-none, repeating-room, repeating-same, repeating-on, repeating-all}
 
-pub record Entries (file t u : List ℕ) (n m : ℕ) : Type 0 where
+-- t is the file from the n-th entry on; the tables are those of the verdicts
+pub record Entries (file lent before table u fundings : List ℕ) (count : ℕ) (t : List ℕ) (n m : ℕ) : Type 0 where
   pub passed : askFile file ≡ passes
   pub counted : n ≤ length (entries (fields file))
-  pub lines : Repeating (entryLines (fields file)) t 0 u n m
+  pub here : t ≡ fromNth Entry Entry n file
+  pub lines : Repeating (entryLines (fields file)) before 0 u n m
+  pub room : length file ≤ 3 * length lent
+  pub same-table : length table ≡ length lent
+  pub wide : length fundings ≡ 1900
+  pub funded : Fundings file fundings count
 
-module _ (file : List ℕ) (a : Answer) (e : asked a ≡ askFile file) (t : List ℕ) where
-  pub refused-listing : (k p : ℕ) → a ≡ Refused k p → (u : List ℕ) (r : ℕ) → Written (refusalLine k p) t 0 u r → Written (listing file) t 0 u r
+module _ (file : List ℕ) (a : Answer) (e : asked a ≡ askFile file) where
+  pub refused-listing : (k p : ℕ) → a ≡ Refused k p → (before u : List ℕ) (r : ℕ) → Written (refusalLine k p) before 0 u r → Written (listing file) before 0 u r
   unfolding listing
-  refused-listing k p f u r x = let h : askFile file ≡ fails k p = sym e ∙ ap asked f in rw (listing, h) x
+  refused-listing k p f before u r x = let h : askFile file ≡ fails k p = sym e ∙ ap asked f in rw (listing, h) x
 
-  pub entries-none : a ≡ Passes → Entries file t t 0 0
-  entries-none f =
-      record { passed = sym e ∙ ap asked f; counted = omega arith; lines = repeating-none (entryLines (fields file)) t 0 (omega arith) }
+  pub asked-all : a ≡ Passes → askFile file ≡ passes
+  asked-all f = sym e ∙ ap asked f
 
-module _ (file t u : List ℕ) (n m : ℕ) (w : Entries file t u n m) where
-  pub entries-short : length file ≤ 32768
-  entries-short = short-file file (w .passed)
+  -- a table of 10,923 numbers has one for each three bytes
+  pub table-enough : a ≡ Passes → length file ≤ 32769
+  table-enough f = omega (arith, short-file file (asked-all f))
 
-  pub entries-room : m ≤ length u
-  entries-room = repeating-room (entryLines (fields file)) t 0 u n m (w .lines)
+module _ (file lent before : List ℕ) where
+  pub entries-none : askFile file ≡ passes → length file ≤ 3 * length lent → (fundings : List ℕ) (count : ℕ) → length fundings ≡ 1900 → Fundings file fundings count →
+      (t : List ℕ) → t ≡ from Entry Entry file → Entries file lent before lent before fundings count t 0 0
+  unfolding fromNth
+  entries-none p r fundings count w f t e =
+      record {
+        passed = p;
+        counted = omega arith;
+        here = e;
+        lines = repeating-none (entryLines (fields file)) before 0 (omega arith);
+        room = r;
+        same-table = refl;
+        wide = w;
+        funded = f;
+      }
 
-  pub entries-same : length u ≡ length t
-  entries-same = repeating-same (entryLines (fields file)) t 0 u n m (w .lines)
+  module _ (table u fundings : List ℕ) (count : ℕ) (t : List ℕ) (n m : ℕ) (w : Entries file lent before table u fundings count t n m) where
+    pub entries-short : length file ≤ 32768
+    entries-short = short-file file (w .passed)
 
-  -- whether there is an n-th entry
-  module _ (s : List ℕ) (e : shown file s ≡ take 1 (drop n (entries (fields file)))) (b : Bool) (f : b ≡ whole s) where
-    pub entries-all : b ≡ false → Written (listing file) t 0 u m
+    pub entries-table : length file ≤ 3 * length table
+    entries-table = omega (arith, w .room, w .same-table)
+
+    pub entries-room : m ≤ length u
+    entries-room = repeating-room (entryLines (fields file)) before 0 u n m (w .lines)
+
+    pub entries-same : length u ≡ length before
+    entries-same = repeating-same (entryLines (fields file)) before 0 u n m (w .lines)
+
+    nth-shown : shown file t ≡ take 1 (drop n (entries (fields file)))
+    unfolding entries
+    nth-shown = shown-nth Entry Entry n file t (w .here)
+
+    -- whether there is an n-th entry
+    pub entries-all : whole t ≡ false → Written (listing file) before 0 u m
     unfolding listing
     entries-all g =
         let p : askFile file ≡ passes = w .passed in
-        rw (listing, p) (repeating-all (entryLines (fields file)) t 0 u n m (w .lines) (length (entries (fields file))) (w .counted) (entry-missing file n s e (sym f ∙ g)))
+        rw (listing, p) (repeating-all (entryLines (fields file)) before 0 u n m (w .lines) (length (entries (fields file))) (w .counted) (entry-missing file n t nth-shown g))
 
-    module _ (g : b ≡ true) where
+    module _ (g : whole t ≡ true) where
       there : n < length (entries (fields file))
-      there = entry-counted file n s e (sym f ∙ g) (length file - length s) refl
+      there = entry-counted file n t nth-shown g (length file - length t) refl
 
       pub entries-fit : Fits w64 (n + 1)
       entries-fit = omega (arith, there, few-entries file (w .passed))
@@ -63,6 +97,19 @@ module _ (file t u : List ℕ) (n m : ℕ) (w : Entries file t u n m) where
       pub entries-less : length (entries (fields file)) - (n + 1) < length (entries (fields file)) - n
       entries-less = omega (arith, there)
 
-      pub entries-on : (v : List ℕ) (r : ℕ) → Written (entryLines (fields file) n) u m v r → Entries file t v (n + 1) r
-      entries-on v r x =
-          record { passed = w .passed; counted = omega (arith, there); lines = repeating-on (entryLines (fields file)) t 0 u n m (w .lines) v r x }
+      pub entries-on : (v : List ℕ) (r : ℕ) → Written (entryLines (fields file) n) u m v r → (s next : List ℕ) → s ≡ after t → next ≡ from Entry Entry s →
+          (last : List ℕ) → length last ≡ length table → (calls : List ℕ) (k : ℕ) → length calls ≡ length fundings → Fundings file calls k →
+          Entries file lent before last v calls k next (n + 1) r
+      unfolding fromNth
+      entries-on v r x s next e f last same calls k same-calls h =
+          let one : n + 1 ≡ suc n = omega arith in
+          record {
+            passed = w .passed;
+            counted = omega (arith, there);
+            here = rw (one, ← w .here, ← e) f;
+            lines = repeating-on (entryLines (fields file)) before 0 u n m (w .lines) v r x;
+            room = w .room;
+            same-table = same ∙ w .same-table;
+            wide = same-calls ∙ w .wide;
+            funded = h;
+          }

@@ -4,7 +4,6 @@ pub mod Pieces
 pub mod Lined
 pub mod Repeating
 pub mod Passed
-pub mod Sparing
 pub mod Deciding
 pub mod Entries
 pub mod Examples

@@ -11,12 +11,10 @@ use Rattle.fields.specs.Lists.{filter}
 use Rattle.fields.specs.Field.{Fields, Placed, fields, whole}
 use Rattle.questions.specs.Model.{states, entries}
 use Rattle.questions.specs.Questions.{Asked, passes, fails, ask, _andThen_, atMost, askForm, askNames, askFile}
-use Rattle.questions.specs.Shown.{shown}
 use Rattle.walking.specs.Walking.{bodyExprs, isPayout, payouts}
 use Rattle.matching.specs.Matching.{Cover, start}
 use Rattle.verdict.specs.Verdict.{accepted, matching, backingCount, entryAt, askEntry, entryVerdict}
 use Rattle.verdict.proofs.Fitting.{earlier-asked, later-asked, asked}
-use Rattle.verdict.proofs.Asking.{entry-missing}
 use Rattle.verdict.proofs.Passing.{a-pass, passed-count}
 
 -- at most n
@@ -43,10 +41,6 @@ module _ (model : Fields) (n lent : ℕ) (e : askEntry model n lent ≡ passes) 
   after-tenth : ask (leb (backingCount (entryAt model n .this)) 64) 11 (entryAt model n .place)
       andThen ask (leb (3 * length (payouts (entryAt model n .this))) lent) 12 0 ≡ passes
   after-tenth = later-asked (atMost 64 10 (filter (λ p. isPayout (p .this)) (bodyExprs (entryAt model n)))) _ after-ninth
-
-  pub passed-there : n < length (entries model)
-  unfolding askEntry
-  passed-there = ltb-true n (length (entries model)) (asked (ltb n (length (entries model))) 9 0 (earlier-asked _ _ e))
 
   pub passed-few : backingCount (entryAt model n .this) ≤ 64
   passed-few =
@@ -79,12 +73,3 @@ module _ (model : Fields) (n lent : ℕ) (cs : List Cover) (e : entryVerdict mod
 
   pub accepted-few : lent ≡ 192 → length cs ≤ 64
   accepted-few h = omega (arith, accepted-count, passed-room model n lent accepted-passes, h)
-
--- the entry that is shown is there
-module _ (file : List ℕ) (n : ℕ) (r : List ℕ) (e : shown file r ≡ take 1 (drop n (entries (fields file)))) where
-  pub shown-whole : n < length (entries (fields file)) → whole r ≡ true
-  shown-whole h = go (whole r) refl
-    where
-      go : (b : Bool) → whole r ≡ b → b ≡ true
-      go true w = refl
-      go false w = absurd (let g : length (entries (fields file)) ≤ n = entry-missing file n r e w in omega (arith, g, h))

@@ -1,4 +1,3 @@
 // The listing of a file.
 pub mod lines;
 pub mod output;
-pub mod spare;

@@ -1,22 +1,26 @@
 // The lines of the listing, one behind the other.
 use super::output::write_three;
 use super::output::write_two;
-use super::spare::spare_of;
 use fields::bytes::byte_at;
+use fields::front::after_front;
+use fields::front::first_from;
 use fields::front::is_whole;
+use fields::tag::ENTRY;
 use questions::check::Answer;
 use questions::file::check_file;
-use questions::model::nth_entry;
+use tokens::ledger::NOT_LISTED;
 use verdict::entry::Verdict;
-use verdict::entry::entry_verdict;
+use verdict::entry::less;
+use verdict::entry::placed_verdict;
 ghost use mathlib.Core.Path.{_≡_};
 ghost use mathlib.Core.List.{flatMap};
-ghost use Prim.Native.Nat.{_<_, _≤_};
+ghost use mathlib.Core.Bool.{true};
+ghost use Prim.Native.Nat.{_*_, _<_, _≤_};
 ghost use lib.ListN.{length};
-ghost use Rattle.fields.specs.Field.{fields};
-ghost use Rattle.questions.specs.Questions.{passes};
-ghost use Rattle.verdict.specs.Verdict.{askEntry};
-ghost use Rattle.verdict.specs.Claim.{kindAt, indexAt};
+ghost use Rattle.fields.specs.Tag.{Entry};
+ghost use Rattle.fields.specs.Field.{fields, whole, fromNth};
+ghost use Rattle.questions.specs.Questions.{passes, askFile};
+ghost use Rattle.tokens.specs.Fundings.{Fundings};
 ghost use Rattle.listing.specs.Output.{Written};
 ghost use Rattle.listing.specs.Listing as rules;
 ghost use Rattle.listing.specs.Coded.{coverLineAt};
@@ -72,36 +76,80 @@ fn cover_lines(covers: &[u8], count: usize, buffer: &mut [u8], at: usize) -> usi
     m
 }
 
-// The lines of the n-th entry of a file that passes question 1.
-fn entry_lines(file: &[u8], n: usize, buffer: &mut [u8], at: usize) -> usize
+// The lines of the n-th entry of a file that passes question 1: t is the file from that entry on. The tables are those of
+// the verdict.
+fn entry_lines(
+    file: &[u8],
+    t: &[u8],
+    n: usize,
+    table: &mut [u16],
+    fundings: &mut [u16],
+    fundings_count: &mut usize,
+    buffer: &mut [u8],
+    at: usize,
+) -> usize
     requires short { ⌜ length (now file) ≤ 32768 ⌝ }
+    requires nth { ⌜ now t ≡ fromNth Entry Entry n (now file) ⌝ }
+    requires whole { ⌜ whole (now t) ≡ true ⌝ }
+    requires table { ⌜ length (now file) ≤ 3 * length (now table) ⌝ }
+    requires fundings { ⌜ Fundings (now file) (now fundings) (now «fundings_count») ⌝ }
     requires room { ⌜ at ≤ length (now buffer) ⌝ }
-    ensures { λ r. ⌜ Written (rules.entryLines (fields (now (file .entry))) n) (now (buffer .entry)) at (now (buffer .exit)) r ⌝ }
+    ensures lines { λ r. ⌜ Written (rules.entryLines (fields (now (file .entry))) n) (now (buffer .entry)) at (now (buffer .exit)) r ⌝ }
+    ensures fundings { λ r. ⌜ Fundings (now (file .entry)) (now (fundings .exit)) (now («fundings_count» .exit)) ⌝ }
 {
     let mut covers = [0u8; 192];
-    match entry_verdict(file, n, &mut covers) {
+    let place = less(file.len(), t.len());
+    match placed_verdict(file, place, table, fundings, fundings_count, &mut covers) {
         Verdict::Refused { number, place } => refusal_line(number, place, buffer, at),
         Verdict::Rejected { payout, reason: _ } => rejected_line(n, payout, buffer, at),
-        Verdict::Accepted { payouts } => {
-            let m = accepted_line(n, payouts, spare_of(file, n), buffer, at);
+        Verdict::Accepted { payouts, spare } => {
+            let m = accepted_line(n, payouts, spare, buffer, at);
             cover_lines(&covers, payouts, buffer, m)
         }
     }
 }
 
+// The lines of all entries of a file that passes questions 1 to 8. What the verdicts share is worked out once.
+fn all_lines(file: &[u8], table: &mut [u16], buffer: &mut [u8]) -> usize
+    requires passed { ⌜ askFile (now file) ≡ passes ⌝ }
+    requires table { ⌜ length (now file) ≤ 3 * length (now table) ⌝ }
+    ensures { λ r. ⌜ Written (rules.listing (now (file .entry))) (now (buffer .entry)) 0 (now (buffer .exit)) r ⌝ }
+{
+    let mut fundings = [0u16; 1900];
+    let mut fundings_count = NOT_LISTED;
+    let mut t = first_from(file, ENTRY, ENTRY);
+    let mut n = 0;
+    let mut at = 0;
+    while is_whole(t) {
+        at = entry_lines(
+            file,
+            t,
+            n,
+            table,
+            &mut fundings,
+            &mut fundings_count,
+            buffer,
+            at,
+        );
+        let u = first_from(after_front(t), ENTRY, ENTRY);
+        t = u;
+        n += 1;
+    }
+    at
+}
+
 // The listing of any file: the line of a refusal, or the lines of each entry. It is written as far as the buffer has room,
-// and the answer is its length.
+// and the answer is its length. Most files are short, and a short table is soon cleared.
 pub fn listing(file: &[u8], buffer: &mut [u8]) -> usize
     ensures { λ r. ⌜ Written (rules.listing (now (file .entry))) (now (buffer .entry)) 0 (now (buffer .exit)) r ⌝ }
 {
     if let Answer::Refused { number, place } = check_file(file) {
         return refusal_line(number, place, buffer, 0);
     }
-    let mut n = 0;
-    let mut at = 0;
-    while is_whole(nth_entry(file, n)) {
-        at = entry_lines(file, n, buffer, at);
-        n += 1;
+    if file.len() <= 3072 {
+        let mut table = [0u16; 1024];
+        return all_lines(file, &mut table, buffer);
     }
-    at
+    let mut table = [0u16; 10923];
+    all_lines(file, &mut table, buffer)
 }

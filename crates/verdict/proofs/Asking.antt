@@ -18,7 +18,8 @@ use Rattle.questions.specs.Shown.{shown}
 use Rattle.walking.specs.Walking.{bodyExprs, payouts}
 use Rattle.walking.specs.Table.{placedAt}
 use Rattle.verdict.specs.Calls.{wanted}
-use Rattle.verdict.specs.Verdict.{Verdict, refused, matching, backingCount, entryAt, askEntry, entryVerdict}
+use Rattle.verdict.specs.Verdict.{refused, entryAt, askEntry, entryVerdict}
+use Rattle.verdict.specs.Coded.{placedVerdict, backedVerdict}
 use Rattle.verdict.proofs.Called.{wantedIn}
 
 -- Question 9: the entry that is shown
@@ -66,47 +67,22 @@ module _ (file : List ℕ) (n : ℕ) (r : List ℕ) (e : shown file r ≡ take 1
         let q : Stands file here = subst (Stands file) p (every-at (Stands file) (entries (fields file)) (entries-stand file) n no-entry entry-counted) in
         p ∙ rw f (ap (λ x. record { place = length file - length r; this = x }) (sym q))
 
--- Questions 10 to 12, of the entry that is there
+-- Questions 9 and 10: the first "no", or the verdict past them
 
 module _ (model : Fields) (n lent : ℕ) where
-  refused-by : (k p : ℕ) → askEntry model n lent ≡ fails k p → entryVerdict model n lent ≡ refused k p
-  unfolding entryVerdict
-  refused-by k p e = cc
-
   pub ninth : length (entries model) ≤ n → entryVerdict model n lent ≡ refused 9 0
-  unfolding askEntry
-  ninth h = refused-by 9 0 no
-    where
-      no : askEntry model n lent ≡ fails 9 0
-      no = cc (le-ltb n (length (entries model)) h)
+  unfolding entryVerdict askEntry
+  ninth h = cc (le-ltb n (length (entries model)) h)
 
-  module _ (h : n < length (entries model)) (e : Placed) (f : entryAt model n ≡ e) where
-    pub tenth : (p : Placed) (ps : List Placed) → drop 64 (wantedIn true e) ≡ p ∷ ps → entryVerdict model n lent ≡ refused 10 (p .place)
-    unfolding askEntry atMost wanted
-    tenth p ps k = refused-by 10 (p .place) no
-      where
-        no : askEntry model n lent ≡ fails 10 (p .place)
-        no = cc (lt-ltb n (length (entries model)) h)
+  pub not-ninth : n < length (entries model) → (e : Placed) → entryAt model n ≡ e → entryVerdict model n lent ≡ placedVerdict model e lent
+  unfolding entryVerdict askEntry placedVerdict
+  not-ninth h e f = cc (lt-ltb n (length (entries model)) h)
 
-    module _ (k : drop 64 (wantedIn true e) ≡ []) where
-      pub eleventh : 64 < backingCount (e .this) → entryVerdict model n lent ≡ refused 11 (e .place)
-      unfolding askEntry atMost wanted
-      eleventh g = refused-by 11 (e .place) no
-        where
-          no : askEntry model n lent ≡ fails 11 (e .place)
-          no = cc (lt-ltb n (length (entries model)) h, lt-leb (backingCount (e .this)) 64 g)
+module _ (model : Fields) (e : Placed) (lent : ℕ) where
+  pub tenth : (p : Placed) (ps : List Placed) → drop 64 (wantedIn true e) ≡ p ∷ ps → placedVerdict model e lent ≡ refused 10 (p .place)
+  unfolding placedVerdict atMost wanted
+  tenth p ps k = cc k
 
-      module _ (g : backingCount (e .this) ≤ 64) where
-        pub twelfth : lent < 3 * length (payouts (e .this)) → entryVerdict model n lent ≡ refused 12 0
-        unfolding askEntry atMost wanted
-        twelfth l = refused-by 12 0 no
-          where
-            no : askEntry model n lent ≡ fails 12 0
-            no = cc (lt-ltb n (length (entries model)) h, le-leb (backingCount (e .this)) 64 g, lt-leb (3 * length (payouts (e .this))) lent l)
-
-        pub all-asked : 3 * length (payouts (e .this)) ≤ lent → entryVerdict model n lent ≡ matching model (e .this)
-        unfolding entryVerdict askEntry atMost wanted
-        all-asked l = cc (yes, ap (λ p. p .this) f)
-          where
-            yes : askEntry model n lent ≡ passes
-            yes = cc (lt-ltb n (length (entries model)) h, le-leb (backingCount (e .this)) 64 g, le-leb (3 * length (payouts (e .this))) lent l)
+  pub not-tenth : drop 64 (wantedIn true e) ≡ [] → placedVerdict model e lent ≡ backedVerdict model e lent
+  unfolding placedVerdict backedVerdict atMost wanted
+  not-tenth k = cc k

@@ -11,7 +11,7 @@ use lib.Dec.{leb}
 use lib.ListN.{length, getD, take, drop, length-drop, length-map, drop-of-length-le}
 use lib.Seq.{drop-cons}
 use Rattle.fields.specs.Tag.{Call}
-use Rattle.fields.specs.Field.{Fields, Placed, fields, nothing, whole, lengthOf, front, parts, size, sizes}
+use Rattle.fields.specs.Field.{Field, Fields, Placed, fields, nothing, whole, lengthOf, front, parts, size, sizes}
 use Rattle.fields.proofs.Reading.{front-none}
 use Rattle.fields.proofs.Places.{front-size}
 use Rattle.fields.specs.Table.{Listed}
@@ -25,13 +25,17 @@ use Rattle.walking.proofs.Callers.{body-few}
 use Rattle.matching.specs.Tables.{Tabled, entryOf}
 use Rattle.tokens.specs.Fundings.{Standing}
 use Rattle.verdict.specs.Calls.{wanted, chosenOf, assetPlaces}
-use Rattle.verdict.specs.Verdict.{Verdict, refused, matching, backingCount, entryAt, askEntry, entryVerdict, written}
-use Rattle.verdict.specs.Coded.{coded, placedVerdict, Payouts, Calls}
+use Rattle.verdict.specs.Verdict.{Verdict, refused, accepted, matchFrom, matching, backingCount, spare, entryAt, entryVerdict, sheet, written}
+use Rattle.verdict.specs.Coded.{coded, placedVerdict, backedVerdict, Payouts, Calls}
 use Rattle.verdict.specs.declared.entry.Verdict.{Verdict as CodedVerdict}
-use Rattle.verdict.specs.declared.entry.Verdict.the-variants.{Refused}
+use Rattle.verdict.specs.declared.entry.Verdict.the-variants.{Refused, Accepted}
 use Rattle.verdict.proofs.Called.{wantedIn, wanted-counted, wanted-place, wanted-read, payouts-wanted, debits-wanted}
 use Rattle.verdict.proofs.Naming.{front-stays, name-there}
-use Rattle.verdict.proofs.Asking.{ninth, tenth, entry-missing, entry-counted, entry-there}
+use Rattle.verdict.proofs.Asking.{ninth, not-ninth, tenth, not-tenth, entry-missing, entry-counted, entry-there}
+
+none-there : (l : List Field) → length l ≡ 0 → l ≡ []
+none-there [] h = refl
+none-there (f ∷ l) h = absurd (omega (arith, h))
 
 -- Questions 11 and 12, and the matching
 
@@ -56,8 +60,8 @@ module _ (file : List ℕ) (place : ℕ) (calls : List ℕ) (count : ℕ) (l : C
   unfolding backingCount
   backings-counted = omega (arith, debits-counted, e)
 
-  pub eleventh-place : not (leb (r + m) 64) ≡ true → (lent : ℕ) → placedVerdict model here lent ≡ refused 11 place
-  unfolding placedVerdict
+  pub eleventh-place : not (leb (r + m) 64) ≡ true → (lent : ℕ) → backedVerdict model here lent ≡ refused 11 place
+  unfolding backedVerdict
   eleventh-place h lent = cc (backings-counted, not-true (leb (r + m) 64) h)
 
   module _ (h : not (leb (r + m) 64) ≡ false) where
@@ -67,12 +71,12 @@ module _ (file : List ℕ) (place : ℕ) (calls : List ℕ) (count : ℕ) (l : C
     pub sum-fits : Fits w64 (r + m)
     sum-fits = omega (arith, few)
 
-    pub twelfth-place : (lent : ℕ) → lent < 3 * payoutCount → placedVerdict model here lent ≡ refused 12 0
-    unfolding placedVerdict
+    pub twelfth-place : (lent : ℕ) → lent < 3 * payoutCount → backedVerdict model here lent ≡ refused 12 0
+    unfolding backedVerdict
     twelfth-place lent g = cc (backings-counted, not-false (leb (r + m) 64) h, lt-leb (3 * length (payouts (entryOf file place))) lent (omega (arith, g, p .counted)))
 
-    pub past-twelfth : (lent : ℕ) → 3 * payoutCount ≤ lent → placedVerdict model here lent ≡ matching model (entryOf file place)
-    unfolding placedVerdict
+    pub past-twelfth : (lent : ℕ) → 3 * payoutCount ≤ lent → backedVerdict model here lent ≡ matching model (entryOf file place)
+    unfolding backedVerdict
     past-twelfth lent g = cc (backings-counted, not-false (leb (r + m) 64) h, le-leb (3 * length (payouts (entryOf file place))) lent (omega (arith, g, p .counted)))
 
     pub debits-standing : Standing file place r
@@ -93,69 +97,77 @@ module _ (file : List ℕ) (place : ℕ) (calls : List ℕ) (count : ℕ) (l : C
 
     -- what is told and what is left, past question 12
     module _ (lent : List ℕ) (g : 3 * payoutCount ≤ length lent) where
-      pub told-past : (x : CodedVerdict) → x ≡ coded (matching model (entryOf file place)) → x ≡ coded (placedVerdict model here (length lent))
+      pub told-past : (x : CodedVerdict) → x ≡ coded (spare (entryOf file place)) (matching model (entryOf file place)) →
+          x ≡ coded (spare (entryOf file place)) (backedVerdict model here (length lent))
       told-past x f = rw (past-twelfth (length lent) g) f
 
-      pub left-past : (left : List ℕ) → left ≡ written (matching model (entryOf file place)) lent → left ≡ written (placedVerdict model here (length lent)) lent
+      pub left-past : (left : List ℕ) → left ≡ written (matching model (entryOf file place)) lent → left ≡ written (backedVerdict model here (length lent)) lent
       left-past left f = rw (past-twelfth (length lent) g) f
+
+      -- without payouts nothing is to be matched
+      module _ (z : payoutCount ≡ 0) where
+        nothing-paid : payouts (entryOf file place) ≡ []
+        nothing-paid = none-there (payouts (entryOf file place)) (sym (p .counted) ∙ z)
+
+        nothing-matched : backedVerdict model here (length lent) ≡ accepted []
+        unfolding matching matchFrom
+        nothing-matched = past-twelfth (length lent) g ∙ rw (matching, nothing-paid)
+
+        pub told-unpaid : Accepted 0 (r + m) ≡ coded (spare (entryOf file place)) (backedVerdict model here (length lent))
+        unfolding coded spare
+        told-unpaid = rw nothing-matched (ap (λ n. Accepted 0 n) (omega (arith, backings-counted, ap length nothing-paid)))
+
+        pub left-unpaid : lent ≡ written (backedVerdict model here (length lent)) lent
+        unfolding written sheet
+        left-unpaid = rw nothing-matched
 
 -- a refusal writes nothing
 module _ (v : Verdict) (k p : ℕ) (e : v ≡ refused k p) where
-  pub told-refused : Refused k p ≡ coded v
+  pub told-refused : (rest : ℕ) → Refused k p ≡ coded rest v
   unfolding coded
-  told-refused = rw e
+  told-refused rest = rw e
 
   pub left-refused : (t : List ℕ) → t ≡ written v t
   unfolding written
   left-refused t = rw e
 
--- Questions 9 and 10
-
-same-placed : (model : Fields) (n lent : ℕ) → n < length (entries model) → (e : Placed) → entryAt model n ≡ e → drop 64 (wantedIn true e) ≡ [] →
-    entryVerdict model n lent ≡ placedVerdict model e lent
-unfolding entryVerdict askEntry atMost wanted placedVerdict
-same-placed model n lent h e f k = go (leb (backingCount (e .this)) 64) refl (leb (3 * length (payouts (e .this))) lent) refl
-  where
-    go : (a : Bool) → leb (backingCount (e .this)) 64 ≡ a → (b : Bool) → leb (3 * length (payouts (e .this))) lent ≡ b → entryVerdict model n lent ≡ placedVerdict model e lent
-    go true p true q = cc (lt-ltb n (length (entries model)) h)
-    go true p false q = cc (lt-ltb n (length (entries model)) h)
-    go false p b q = cc (lt-ltb n (length (entries model)) h)
+-- Question 10
 
 -- each call takes three bytes at least
-few-calls : (file : List ℕ) → length file ≤ 32768 → (n : ℕ) → length (placesOf Call (bodyExprs (placedAt file n))) ≤ 10923
+few-calls : (file : List ℕ) (n : ℕ) → 3 * length (placesOf Call (bodyExprs (placedAt file n))) ≤ length file
 unfolding size sizes
-few-calls file h n = go (whole (drop n file)) refl
+few-calls file n = go (whole (drop n file)) refl
   where
     few : 3 + 3 * length (placesOf Call (bodyExprs (placedAt file n))) ≤ size (front (drop n file))
     few = body-few (placedAt file n) Call
 
-    go : (w : Bool) → whole (drop n file) ≡ w → length (placesOf Call (bodyExprs (placedAt file n))) ≤ 10923
+    go : (w : Bool) → whole (drop n file) ≡ w → 3 * length (placesOf Call (bodyExprs (placedAt file n))) ≤ length file
     go true w = omega (arith, few, front-size (drop n file) w, leb-true (3 + lengthOf (drop n file)) (length (drop n file)) w, length-drop n file)
     go false w = omega (arith, few, ap size (front-none (drop n file) w))
 
-module _ (file : List ℕ) (short : length file ≤ 32768) (n : ℕ) (r : List ℕ) (e : shown file r ≡ take 1 (drop n (entries (fields file)))) where
-  pub ninth-refused : whole r ≡ false → (lent : ℕ) → entryVerdict (fields file) n lent ≡ refused 9 0
-  ninth-refused w lent = ninth (fields file) n lent (entry-missing file n r e w)
+module _ (file : List ℕ) (short : length file ≤ 32768) (place : ℕ) (inside : place ≤ length file) (old calls : List ℕ) (count : ℕ)
+    (l : Listed (placesOf Call (bodyExprs (placedAt file place))) old 0 calls count) (room : length file ≤ 3 * length old) where
+  few-listed : count ≤ length old
+  few-listed = omega (arith, l .count, few-calls file place, room)
 
-  module _ (w : whole r ≡ true) (place : ℕ) (f : place ≡ length file - length r) (zeros calls : List ℕ) (count : ℕ)
-      (l : Listed (placesOf Call (bodyExprs (placedAt file place))) zeros 0 calls count) (k : length zeros ≡ 10923) where
-    few-listed : count ≤ 10923
-    few-listed = omega (arith, l .count, few-calls file short place)
+  module _ (same : length calls ≡ length old) where
+    pub calls-within : count ≤ length calls
+    calls-within = omega (arith, few-listed, same)
 
-    pub calls-within : length calls ≡ length zeros → count ≤ length calls
-    calls-within same = omega (arith, few-listed, k, same)
+    pub calls-room : length file ≤ 3 * length calls
+    calls-room = omega (arith, room, same)
 
-    pub calls-all : length calls ≡ length zeros → Calls file place calls count
-    calls-all same =
+    pub calls-all : Calls file place calls count
+    calls-all =
         record {
           small = short;
-          inside = omega (arith, f);
-          listed = listed-front (placesOf Call (bodyExprs (placedAt file place))) zeros calls count l (omega (arith, few-listed, k));
-          within = calls-within same;
+          inside = inside;
+          listed = listed-front (placesOf Call (bodyExprs (placedAt file place))) old calls count l few-listed;
+          within = calls-within;
         }
 
     -- the payouts among them, with a table of 65 places
-    module _ (c : Calls file place calls count) (none table : List ℕ) (z : length none ≡ 65) (m : ℕ) (p : Listed (chosenOf file true (take count calls)) none 0 table m) where
+    module _ (none table : List ℕ) (z : length none ≡ 65) (m : ℕ) (p : Listed (chosenOf file true (take count calls)) none 0 table m) where
       abbrev at-place : Placed
       at-place = placedAt file place
 
@@ -163,16 +175,13 @@ module _ (file : List ℕ) (short : length file ≤ 32768) (n : ℕ) (r : List �
       those = wantedIn true at-place
 
       many : m ≡ length those
-      many = wanted-counted file place true (omega (arith, short)) calls count (c .listed) none table m p
+      many = wanted-counted file place true (omega (arith, short)) calls count (calls-all .listed) none table m p
 
-      there : entryAt (fields file) n ≡ at-place
-      there = entry-there file n r e w place f
-
-      pub tenth-refused : 64 < m → (x : ℕ) → x ≡ getD table 64 0 → (lent : ℕ) → entryVerdict (fields file) n lent ≡ refused 10 x
-      tenth-refused h x g lent =
+      pub tenth-place : 64 < m → (x : ℕ) → x ≡ getD table 64 0 → (lent : ℕ) → placedVerdict (fields file) at-place lent ≡ refused 10 x
+      tenth-place h x g lent =
           let q : getD table 64 0 ≡ getD those 64 (record { place = 0; this = nothing }) .place =
-          wanted-place file place true (omega (arith, short)) calls count (c .listed) none table m p 64 (omega (arith, z)) (omega (arith, h, many)) in
-          tenth (fields file) n lent (entry-counted file n r e w place f) at-place there (getD those 64 (record { place = 0; this = nothing })) (drop 65 those)
+          wanted-place file place true (omega (arith, short)) calls count (calls-all .listed) none table m p 64 (omega (arith, z)) (omega (arith, h, many)) in
+          tenth (fields file) at-place lent (getD those 64 (record { place = 0; this = nothing })) (drop 65 those)
           (drop-cons those 64 (record { place = 0; this = nothing }) (omega (arith, h, many)))
           ∙ ap (λ y. refused 10 y) (sym (g ∙ q))
 
@@ -180,17 +189,38 @@ module _ (file : List ℕ) (short : length file ≤ 32768) (n : ℕ) (r : List �
         pub payouts-listed : Payouts file place table m
         payouts-listed =
             record {
-              listed = wanted-read file place true (omega (arith, short)) calls count (c .listed) none table m p (omega (arith, z, h)) ∙ payouts-wanted at-place;
+              listed = wanted-read file place true (omega (arith, short)) calls count (calls-all .listed) none table m p (omega (arith, z, h)) ∙ payouts-wanted at-place;
               counted = many ∙ sym (length-map those (λ q. q .this)) ∙ ap length (payouts-wanted at-place);
               few = h;
             }
 
-        past-tenth : (lent : ℕ) → entryVerdict (fields file) n lent ≡ placedVerdict (fields file) at-place lent
-        past-tenth lent = same-placed (fields file) n lent (entry-counted file n r e w place f) at-place there (drop-of-length-le those {i = 64} (omega (arith, h, many)))
+        past-tenth : (lent : ℕ) → placedVerdict (fields file) at-place lent ≡ backedVerdict (fields file) at-place lent
+        past-tenth lent = not-tenth (fields file) at-place lent (drop-of-length-le those {i = 64} (omega (arith, h, many)))
 
         module _ (lent : List ℕ) where
-          pub told-placed : (x : CodedVerdict) → x ≡ coded (placedVerdict (fields file) at-place (length lent)) → x ≡ coded (entryVerdict (fields file) n (length lent))
-          told-placed x g = rw (past-tenth (length lent)) g
+          pub told-backed : (rest : ℕ) (x : CodedVerdict) → x ≡ coded rest (backedVerdict (fields file) at-place (length lent)) → x ≡ coded rest (placedVerdict (fields file) at-place (length lent))
+          told-backed rest x g = rw (past-tenth (length lent)) g
 
-          pub left-placed : (left : List ℕ) → left ≡ written (placedVerdict (fields file) at-place (length lent)) lent → left ≡ written (entryVerdict (fields file) n (length lent)) lent
-          left-placed left g = rw (past-tenth (length lent)) g
+          pub left-backed : (left : List ℕ) → left ≡ written (backedVerdict (fields file) at-place (length lent)) lent → left ≡ written (placedVerdict (fields file) at-place (length lent)) lent
+          left-backed left g = rw (past-tenth (length lent)) g
+
+-- Question 9
+
+module _ (file : List ℕ) (n : ℕ) (r : List ℕ) (e : shown file r ≡ take 1 (drop n (entries (fields file)))) where
+  pub ninth-refused : whole r ≡ false → (lent : ℕ) → entryVerdict (fields file) n lent ≡ refused 9 0
+  ninth-refused w lent = ninth (fields file) n lent (entry-missing file n r e w)
+
+  module _ (w : whole r ≡ true) (place : ℕ) (f : place ≡ length file - length r) where
+    there : entryAt (fields file) n ≡ placedAt file place
+    there = entry-there file n r e w place f
+
+    past-ninth : (lent : ℕ) → entryVerdict (fields file) n lent ≡ placedVerdict (fields file) (placedAt file place) lent
+    past-ninth lent = not-ninth (fields file) n lent (entry-counted file n r e w place f) (placedAt file place) there
+
+    module _ (lent : List ℕ) where
+      pub told-placed : (x : CodedVerdict) → x ≡ coded (spare (entryOf file place)) (placedVerdict (fields file) (placedAt file place) (length lent)) →
+          x ≡ coded (spare (entryAt (fields file) n .this)) (entryVerdict (fields file) n (length lent))
+      told-placed x g = rw (past-ninth (length lent), there) g
+
+      pub left-placed : (left : List ℕ) → left ≡ written (placedVerdict (fields file) (placedAt file place) (length lent)) lent → left ≡ written (entryVerdict (fields file) n (length lent)) lent
+      left-placed left g = rw (past-ninth (length lent)) g

@@ -1,5 +1,5 @@
 -- Payout by payout: those before the k-th have their covers, and those that are left decide.
-use Prim.Native.Nat.{ℕ, zero, suc, _+_, _*_, _/_, _%_, _≤_, _<_}
+use Prim.Native.Nat.{ℕ, zero, suc, _+_, _-_, _*_, _/_, _%_, _≤_, _<_}
 use native.Mathlib.Omega.{arith}
 use native.Mathlib.Nat.{zero-add, mod-eq-of-lt}
 use mathlib.Core.Path.{_≡_, refl, sym, ap, _∙_}
@@ -32,7 +32,7 @@ use Rattle.matching.specs.declared.answer.Answered.{Answered}
 use Rattle.matching.proofs.Backed.{backings-many}
 use Rattle.matching.proofs.Kept.{start-stands}
 use Rattle.matching.proofs.Ways.{Step, a-step}
-use Rattle.verdict.specs.Verdict.{Verdict, refused, rejected, accepted, withCover, matchFrom, matching, backingCount, kind, index, sheet, written}
+use Rattle.verdict.specs.Verdict.{Verdict, refused, rejected, accepted, withCover, matchFrom, matching, backingCount, spare, kind, index, sheet, written}
 use Rattle.verdict.specs.Sheet.{coverBytes}
 use Rattle.verdict.specs.Coded.{coded, rejectedBy, kindIn, indexIn, Payouts}
 use Rattle.verdict.specs.declared.entry.Verdict.{Verdict as CodedVerdict}
@@ -220,7 +220,7 @@ module _ (file : List ℕ) (place : ℕ) (table : List ℕ) (count : ℕ) (debit
           rejects (Covered (BoundingParameter i)) e = absurd (omega (arith, rw e at g))
           rejects (Covered (Reserve i)) e = absurd (omega (arith, rw e at g))
 
-          pub rejected-coded : (x : CodedVerdict) → x ≡ rejectedBy (r .answer) k → x ≡ coded (matching model entry)
+          pub rejected-coded : (x : CodedVerdict) → x ≡ rejectedBy (r .answer) k → x ≡ coded (spare entry) (matching model entry)
           unfolding rejectedBy coded
           rejected-coded x e = let (q, f) = rejects (r .answer) refl in e ∙ rw (f, running-rejected q f) (reason-back q)
 
@@ -304,9 +304,11 @@ module _ (file : List ℕ) (place : ℕ) (table : List ℕ) (count : ℕ) (debit
         v .rest ∙ rw (none, matchFrom) (all-covered (v .done) [] ∙ rw append-nil)
 
     module _ (h : count ≤ k) where
-      pub done-coded : CodedAccepted count ≡ coded (matching model entry)
-      unfolding coded
-      done-coded = rw (running-done h) (ap (λ n. CodedAccepted n) (omega (arith, h, v .reached, v .many)))
+      pub done-coded : (rest : ℕ) → rest ≡ total - count → CodedAccepted count rest ≡ coded (spare entry) (matching model entry)
+      unfolding coded spare backingCount
+      done-coded rest e =
+          let i : rest ≡ spare entry = omega (arith, e, d .all, d .counted, l .counted) in
+          rw (running-done h, ← i) (ap (λ n. CodedAccepted n rest) (omega (arith, h, v .reached, v .many)))
 
       pub done-written : (covers left : List ℕ) → left ≡ take (3 * count) bytes ++ drop (3 * count) covers → left ≡ written (matching model entry) covers
       unfolding written

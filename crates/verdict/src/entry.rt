@@ -27,16 +27,18 @@ ghost use lib.ListN.{length, getD, drop};
 ghost use Rattle.fields.specs.Field.{fields};
 ghost use Rattle.walking.specs.Table.{placedAt};
 ghost use Rattle.tokens.specs.Fundings.{Fundings};
+ghost use Rattle.reserves.specs.Candidates.{Candidates};
 ghost use Rattle.matching.specs.Tables.{Tabled, entryOf};
 ghost use Rattle.matching.specs.Coded.{coverOf, codedReason};
-ghost use Rattle.verdict.specs.Verdict.{kind, index, matching, entryVerdict, written};
-ghost use Rattle.verdict.specs.Coded.{coded, rejectedBy, kindIn, indexIn, placedVerdict, Payouts, Calls};
+ghost use Rattle.verdict.specs.Verdict.{kind, index, matching, entryAt, entryVerdict, spare, written};
+ghost use Rattle.verdict.specs.Coded.{coded, rejectedBy, kindIn, indexIn, placedVerdict, backedVerdict, Payouts, Calls};
 
-// A "no" to a question; a payout that nothing covers, and why; or the number of payouts, each of which has a cover.
+// A "no" to a question; a payout that nothing covers, and why; or the number of payouts, each of which has a cover, and of the
+// backings beyond them.
 pub enum Verdict {
     Refused { number: u8, place: usize },
     Rejected { payout: usize, reason: Reason },
-    Accepted { payouts: usize },
+    Accepted { payouts: usize, spare: usize },
 }
 
 // The kind of a cover.
@@ -94,7 +96,10 @@ fn rejected_by(answer: Answer, payout: usize) -> Verdict
             payout: payout,
             reason: reason,
         },
-        Answer::Covered { cover: _ } => Verdict::Accepted { payouts: payout },
+        Answer::Covered { cover: _ } => Verdict::Accepted {
+            payouts: payout,
+            spare: 0,
+        },
     }
 }
 
@@ -105,29 +110,40 @@ fn nth_payout<'a>(file: &'a [u8], payouts: &[u16], k: usize) -> &'a [u8]
     skip(file, number_at(payouts, k))
 }
 
-// Lists the calls of the file that fund a map, where a payout can ask for a map's token: that of a debit or, of a state field
-// that a guard bounds the amount by, those of the maps that its raises come from. Else it says that nothing was listed.
+// How many are left of a number, or 0.
+pub fn less(a: usize, b: usize) -> usize
+    ensures { λ r. ⌜ r ≡ a - b ⌝ }
+{
+    if b < a {
+        return a - b;
+    }
+    0
+}
+
+// Lists the calls of the file that fund a map, where they are not listed yet and a payout can ask for a map's token: that of a
+// debit or, of a state field that a guard bounds the amount by, those of the maps that its raises come from.
 fn list_if_asked(
     file: &[u8],
-    payout_count: usize,
     debit_count: usize,
     candidate_count: usize,
     table: &mut [u16],
+    count: usize,
 ) -> usize
     requires short { ⌜ length (now file) ≤ 32768 ⌝ }
+    requires fundings { ⌜ Fundings (now file) (now table) count ⌝ }
     ensures { λ r. ⌜ Fundings (now (file .entry)) (now (table .exit)) r ⌝ }
 {
-    if payout_count == 0 {
-        return NOT_LISTED;
+    if count != NOT_LISTED {
+        return count;
     }
     if (debit_count == 0) & (candidate_count == 0) {
         return NOT_LISTED;
     }
-    let count = list_fundings(file, table);
-    if table.len() < count {
+    let listed = list_fundings(file, table);
+    if table.len() < listed {
         return NOT_LISTED;
     }
-    count
+    listed
 }
 
 // The entry at a place of the file, payout by payout. The covers are written at the end, where each payout has one.
@@ -139,24 +155,20 @@ fn match_payouts(
     backings: &[u16],
     debit_count: usize,
     total: usize,
+    candidates: &[u16],
+    candidate_count: usize,
+    fundings: &[u16],
+    fundings_count: usize,
     covers: &mut [u8],
 ) -> Verdict
     requires tabled { ⌜ Tabled (now file) place (now backings) «debit_count» total ⌝ }
     requires listed { ⌜ Payouts (now file) place (now payouts) «payout_count» ⌝ }
+    requires candidates { ⌜ Candidates (now file) place (now candidates) «candidate_count» ⌝ }
+    requires fundings { ⌜ Fundings (now file) (now fundings) «fundings_count» ⌝ }
     requires room { ⌜ 3 * «payout_count» ≤ length (now covers) ⌝ }
-    ensures answer { λ r. ⌜ r ≡ coded (matching (fields (now (file .entry))) (entryOf (now (file .entry)) place)) ⌝ }
+    ensures answer { λ r. ⌜ r ≡ coded (spare (entryOf (now (file .entry)) place)) (matching (fields (now (file .entry))) (entryOf (now (file .entry)) place)) ⌝ }
     ensures covers { λ r. ⌜ now (covers .exit) ≡ written (matching (fields (now (file .entry))) (entryOf (now (file .entry)) place)) (now (covers .entry)) ⌝ }
 {
-    let mut candidates = [0u16; 10923];
-    let candidate_count = list_candidates(file, place, &mut candidates);
-    let mut fundings = [0u16; 1490];
-    let fundings_count = list_if_asked(
-        file,
-        payout_count,
-        debit_count,
-        candidate_count,
-        &mut fundings,
-    );
     let mut known = [0u16; 2979];
     let mut sheet = [0u8; 192];
     let mut marks = all_free();
@@ -174,9 +186,9 @@ fn match_payouts(
             payouts,
             payout_count,
             k,
-            &candidates,
+            candidates,
             candidate_count,
-            &fundings,
+            fundings,
             fundings_count,
             &mut known,
         );
@@ -193,6 +205,7 @@ fn match_payouts(
     copy_sheet(&sheet, 3 * payout_count, covers);
     Verdict::Accepted {
         payouts: payout_count,
+        spare: less(total, payout_count),
     }
 }
 
@@ -209,33 +222,29 @@ fn are_many(a: usize, b: usize) -> bool
     64 < a + b
 }
 
-// The place of a part of the file that goes on to its end.
-fn place_in(file: &[u8], part: &[u8]) -> usize
-    ensures { λ r. ⌜ r ≡ length (now (file .entry)) - length (now (part .entry)) ⌝ }
-{
-    if part.len() < file.len() {
-        return file.len() - part.len();
-    }
-    0
-}
-
-// Questions 11 and 12 of the entry at a place of the file, and then its payouts.
+// Questions 11 and 12 of the entry at a place of the file, and then its payouts. The table of its calls serves again for the
+// guards that can matter.
 fn backed_verdict(
     file: &[u8],
     place: usize,
-    calls: &[u16],
+    table: &mut [u16],
     count: usize,
     payouts: &[u16],
     payout_count: usize,
+    fundings: &mut [u16],
+    fundings_count: &mut usize,
     covers: &mut [u8],
 ) -> Verdict
-    requires called { ⌜ Calls (now file) place (now calls) count ⌝ }
+    requires called { ⌜ Calls (now file) place (now table) count ⌝ }
+    requires room { ⌜ length (now file) ≤ 3 * length (now table) ⌝ }
     requires listed { ⌜ Payouts (now file) place (now payouts) «payout_count» ⌝ }
-    ensures answer { λ r. ⌜ r ≡ coded (placedVerdict (fields (now (file .entry))) (placedAt (now (file .entry)) place) (length (now (covers .entry)))) ⌝ }
-    ensures covers { λ r. ⌜ now (covers .exit) ≡ written (placedVerdict (fields (now (file .entry))) (placedAt (now (file .entry)) place) (length (now (covers .entry)))) (now (covers .entry)) ⌝ }
+    requires fundings { ⌜ Fundings (now file) (now fundings) (now «fundings_count») ⌝ }
+    ensures answer { λ r. ⌜ r ≡ coded (spare (entryOf (now (file .entry)) place)) (backedVerdict (fields (now (file .entry))) (placedAt (now (file .entry)) place) (length (now (covers .entry)))) ⌝ }
+    ensures covers { λ r. ⌜ now (covers .exit) ≡ written (backedVerdict (fields (now (file .entry))) (placedAt (now (file .entry)) place) (length (now (covers .entry)))) (now (covers .entry)) ⌝ }
+    ensures fundings { λ r. ⌜ Fundings (now (file .entry)) (now (fundings .exit)) (now («fundings_count» .exit)) ⌝ }
 {
     let mut backings = [0u16; 64];
-    let debit_count = choose(file, calls, count, false, &mut backings);
+    let debit_count = choose(file, table, count, false, &mut backings);
     let parameter_count = count_asset_parameters(skip(file, place));
     if are_many(debit_count, parameter_count) {
         return Verdict::Refused {
@@ -250,7 +259,22 @@ fn backed_verdict(
             place: 0,
         };
     }
+    if payout_count == 0 {
+        return Verdict::Accepted {
+            payouts: 0,
+            spare: total,
+        };
+    }
     let listed = list_parameters(file, place, &mut backings, debit_count);
+    let candidate_count = list_candidates(file, place, table);
+    let known = list_if_asked(
+        file,
+        debit_count,
+        candidate_count,
+        fundings,
+        *fundings_count,
+    );
+    *fundings_count = known;
     match_payouts(
         file,
         place,
@@ -259,6 +283,82 @@ fn backed_verdict(
         &backings,
         debit_count,
         total,
+        table,
+        candidate_count,
+        fundings,
+        known,
+        covers,
+    )
+}
+
+// The verdict on the entry at a place of a file that passes question 1: question 10 and what comes behind it. The caller lends a
+// table with a number for each three bytes of the file, and one for the calls of the file that fund a map: they are the same
+// for all entries.
+pub fn placed_verdict(
+    file: &[u8],
+    place: usize,
+    table: &mut [u16],
+    fundings: &mut [u16],
+    fundings_count: &mut usize,
+    covers: &mut [u8],
+) -> Verdict
+    requires short { ⌜ length (now file) ≤ 32768 ⌝ }
+    requires inside { ⌜ place ≤ length (now file) ⌝ }
+    requires room { ⌜ length (now file) ≤ 3 * length (now table) ⌝ }
+    requires fundings { ⌜ Fundings (now file) (now fundings) (now «fundings_count») ⌝ }
+    ensures answer { λ r. ⌜ r ≡ coded (spare (entryOf (now (file .entry)) place)) (placedVerdict (fields (now (file .entry))) (placedAt (now (file .entry)) place) (length (now (covers .entry)))) ⌝ }
+    ensures covers { λ r. ⌜ now (covers .exit) ≡ written (placedVerdict (fields (now (file .entry))) (placedAt (now (file .entry)) place) (length (now (covers .entry)))) (now (covers .entry)) ⌝ }
+    ensures fundings { λ r. ⌜ Fundings (now (file .entry)) (now (fundings .exit)) (now («fundings_count» .exit)) ⌝ }
+{
+    let count = list_body(file, place, CALL, table);
+    let mut payouts = [0u16; 65];
+    let payout_count = choose(file, table, count, true, &mut payouts);
+    if 64 < payout_count {
+        return Verdict::Refused {
+            number: 10,
+            place: number_at(&payouts, 64),
+        };
+    }
+    backed_verdict(
+        file,
+        place,
+        table,
+        count,
+        &payouts,
+        payout_count,
+        fundings,
+        fundings_count,
+        covers,
+    )
+}
+
+// The same with tables of its own. Most files are short, and a short table is soon cleared.
+fn verdict_at(file: &[u8], place: usize, covers: &mut [u8]) -> Verdict
+    requires short { ⌜ length (now file) ≤ 32768 ⌝ }
+    requires inside { ⌜ place ≤ length (now file) ⌝ }
+    ensures answer { λ r. ⌜ r ≡ coded (spare (entryOf (now (file .entry)) place)) (placedVerdict (fields (now (file .entry))) (placedAt (now (file .entry)) place) (length (now (covers .entry)))) ⌝ }
+    ensures covers { λ r. ⌜ now (covers .exit) ≡ written (placedVerdict (fields (now (file .entry))) (placedAt (now (file .entry)) place) (length (now (covers .entry)))) (now (covers .entry)) ⌝ }
+{
+    let mut fundings = [0u16; 1900];
+    let mut fundings_count = NOT_LISTED;
+    if file.len() <= 3072 {
+        let mut table = [0u16; 1024];
+        return placed_verdict(
+            file,
+            place,
+            &mut table,
+            &mut fundings,
+            &mut fundings_count,
+            covers,
+        );
+    }
+    let mut table = [0u16; 10923];
+    placed_verdict(
+        file,
+        place,
+        &mut table,
+        &mut fundings,
+        &mut fundings_count,
         covers,
     )
 }
@@ -266,7 +366,7 @@ fn backed_verdict(
 // The verdict on the n-th entry of a file that passes question 1.
 pub fn entry_verdict(file: &[u8], n: usize, covers: &mut [u8]) -> Verdict
     requires { ⌜ length (now file) ≤ 32768 ⌝ }
-    ensures answer { λ r. ⌜ r ≡ coded (entryVerdict (fields (now (file .entry))) n (length (now (covers .entry)))) ⌝ }
+    ensures answer { λ r. ⌜ r ≡ coded (spare (entryAt (fields (now (file .entry))) n .this)) (entryVerdict (fields (now (file .entry))) n (length (now (covers .entry)))) ⌝ }
     ensures covers { λ r. ⌜ now (covers .exit) ≡ written (entryVerdict (fields (now (file .entry))) n (length (now (covers .entry)))) (now (covers .entry)) ⌝ }
 {
     let entry = nth_entry(file, n);
@@ -276,16 +376,5 @@ pub fn entry_verdict(file: &[u8], n: usize, covers: &mut [u8]) -> Verdict
             place: 0,
         };
     }
-    let place = place_in(file, entry);
-    let mut calls = [0u16; 10923];
-    let count = list_body(file, place, CALL, &mut calls);
-    let mut payouts = [0u16; 65];
-    let payout_count = choose(file, &calls, count, true, &mut payouts);
-    if 64 < payout_count {
-        return Verdict::Refused {
-            number: 10,
-            place: number_at(&payouts, 64),
-        };
-    }
-    backed_verdict(file, place, &calls, count, &payouts, payout_count, covers)
+    verdict_at(file, less(file.len(), entry.len()), covers)
 }

@@ -8,7 +8,7 @@ pub list-if-asked-spec : {M : Type 1} → statement M
 list-if-asked-spec =
     tie.close
     (tie.spec
-    (λ c. search fundings-unlisted)  -- returns
+    (λ c. search needs)  -- returns
     (λ c. search fundings-unlisted)  -- returns-2
     (λ c κs. search needs)  -- list-fundings-requires
     (λ c. search needs)  -- same-length

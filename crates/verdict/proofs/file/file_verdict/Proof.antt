@@ -9,7 +9,7 @@ use Rattle.questions.specs.Questions.{passes, fails, askFile}
 use Rattle.questions.specs.Answers.{asked}
 use Rattle.questions.specs.declared.check.Answer.{Answer}
 use Rattle.questions.specs.declared.check.Answer.the-variants as question
-use Rattle.verdict.specs.Verdict.{Verdict, refused, entryVerdict, verdict, written}
+use Rattle.verdict.specs.Verdict.{Verdict, refused, entryAt, entryVerdict, verdict, spare, written}
 use Rattle.verdict.specs.Coded.{coded}
 use Rattle.verdict.specs.declared.entry.Verdict.{Verdict as CodedVerdict}
 use Rattle.verdict.specs.declared.entry.Verdict.the-variants.{Refused}
@@ -29,7 +29,8 @@ module _ (file : List ℕ) (a : Answer) (e : asked a ≡ askFile file) where
     unfolding verdict
     same = cc (passed h)
 
-    told-passed : (x : CodedVerdict) → x ≡ coded (entryVerdict (fields file) n (length lent)) → x ≡ coded (verdict file n (length lent))
+    told-passed : (x : CodedVerdict) → x ≡ coded (spare (entryAt (fields file) n .this)) (entryVerdict (fields file) n (length lent)) →
+        x ≡ coded (spare (entryAt (fields file) n .this)) (verdict file n (length lent))
     told-passed x f = rw same f
 
     left-passed : (left : List ℕ) → left ≡ written (entryVerdict (fields file) n (length lent)) lent → left ≡ written (verdict file n (length lent)) lent
@@ -40,7 +41,7 @@ module _ (file : List ℕ) (a : Answer) (e : asked a ≡ askFile file) where
     unfolding verdict
     no = cc
 
-    told-no : Refused k p ≡ coded (verdict file n (length lent))
+    told-no : Refused k p ≡ coded (spare (entryAt (fields file) n .this)) (verdict file n (length lent))
     unfolding coded
     told-no = rw no
 
