@@ -11,9 +11,9 @@ use Rattle.fields.specs.Field.{Field, front}
 use Rattle.conditions.specs.Conditions.{Condition, requiredConditions}
 use Rattle.conditions.specs.Table.{marks, conditionAt}
 use Rattle.conditions.proofs.Callers.{table-wide, table-read}
-use Rattle.tokens.specs.Tokens.{single, tokenNamed, tokensNamed, admittedInflowToken}
+use Rattle.tokens.specs.Tokens.{single, tokenNamed}
 use Rattle.tokens.specs.Agreed.{agreed, tokenAt}
-use Rattle.tokens.proofs.Gathering.{Gathering, gathered}
+use Rattle.tokens.proofs.Gathering.{Gathering}
 
 -- all that conditions name, unknown ones too
 abbrev pub tokensOf : Field → List (List ℕ)
@@ -46,11 +46,3 @@ module _ (s : List ℕ) (h : length s ≤ 32768) (zeros table : List ℕ) (count
   pub gathering-entry : (behind : List (List ℕ)) (found r : List ℕ) → agreed found (tokensOf (front s) ++ behind) ≡ r →
       Gathering (tokenAt s) table count behind r 0 found
   gathering-entry behind found r e = record { within = omega arith; room = omega (arith, room); left = rw table-tokens e }
-
-  pub gathering-all : (found : List ℕ) → found ≡ [] → Gathering (tokenAt s) table count [] (admittedInflowToken (front s)) 0 found
-  unfolding admittedInflowToken tokensNamed
-  gathering-all found e =
-      gathering-entry [] found (admittedInflowToken (front s)) (rw (e, append-nil) (agreed-none (tokensOf (front s))))
-
-pub gathered-all : (s table : List ℕ) (n : ℕ) (r : List ℕ) (i : ℕ) (found : List ℕ) → Gathering (tokenAt s) table n [] r i found → n ≤ i → found ≡ r
-gathered-all s table n r i found v h = agreed-alone found ∙ gathered (tokenAt s) table n [] r i found v h

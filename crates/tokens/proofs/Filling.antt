@@ -1,7 +1,7 @@
 -- The calls of a table, one after the other: whoever lists those that are left has listed all.
 use Prim.Native.Nat.{ℕ, _+_, _-_, _*_, _%_, _^_, _≤_, _<_}
 use mathlib.Core.Path.{_≡_, refl, sym, ap, _∙_}
-use mathlib.Core.Bool.{Bool, true, false, cond, not, _||_}
+use mathlib.Core.Bool.{Bool, true, false, cond, not, _&&_, _||_}
 use mathlib.Core.List.{List, [], _∷_, _++_, map, flatMap}
 use native.Mathlib.Omega.{arith}
 use native.Mathlib.Nat.{mod-eq-of-lt}
@@ -19,12 +19,12 @@ use Rattle.fields.proofs.Inside.{Stands}
 use Rattle.fields.proofs.Slices.{drop-step}
 use Rattle.fields.proofs.Seeking.{Seeking, seeking-all, seeking-found, seeking-on}
 use Rattle.fields.proofs.Tables.{listed-none, listed-then, listed-front}
-use Rattle.walking.specs.Walking.{method, bodyExprs, peel}
+use Rattle.walking.specs.Walking.{method, bodyExprs, peel, assetAmountBacker, assetParams}
 use Rattle.walking.specs.Table.{placedAt, ofTag, placesOf}
 use Rattle.walking.proofs.Calls.{isCall}
 use Rattle.walking.proofs.Callers.{body-places, body-stands, body-few}
 use Rattle.tokens.specs.Tokens.{isCredit, isInflow}
-use Rattle.tokens.specs.Fundings.{tokensNumber, isFundingCall, numbersOf, fundingsOf, fundingCallAt, numbersAt, Calls, Standing}
+use Rattle.tokens.specs.Fundings.{tokensNumber, isFundingCall, numbersOf, fundingsOf, fundingCallAt, numbersAt, Calls, CallsOf, Standing}
 
 -- What the code tests
 
@@ -168,9 +168,6 @@ two-bytes : (ps : List Placed) → Every (λ k. k < 65536) (map (λ p. p .place 
 two-bytes [] = tt
 two-bytes (p ∷ ps) = (omega arith, two-bytes ps)
 
-pub standing-start : (file : List ℕ) (n j : ℕ) → Standing file n j → Standing file n 0
-standing-start file n j h = record { short = h .short; within = h .within; few = omega arith }
-
 module _ (file : List ℕ) (n : ℕ) where
   -- each call takes three bytes at least
   calls-few : 3 * length (placesOf Call (bodyExprs (placedAt file n))) ≤ length (drop n file)
@@ -184,20 +181,28 @@ module _ (file : List ℕ) (n : ℕ) where
       go true w = omega (arith, few, front-size (drop n file) w, leb-true (3 + lengthOf (drop n file)) (length (drop n file)) w)
       go false w = omega (arith, few, ap size (front-none (drop n file) w))
 
-  module _ (j : ℕ) (h : Standing file n j) (zeros calls : List ℕ) (count : ℕ) (l : Listed (placesOf Call (bodyExprs (placedAt file n))) zeros 0 calls count)
-      (k : length zeros ≡ 10923) (w : length calls ≡ length zeros) where
-    pub entry-room : count ≤ length calls
-    entry-room = omega (arith, l .count, calls-few, length-drop n file, h .short)
+  module _ (zeros calls : List ℕ) (count : ℕ) (l : Listed (placesOf Call (bodyExprs (placedAt file n))) zeros 0 calls count) where
+    -- a table that has room for all calls holds them in front
+    pub calls-fit : count ≤ length zeros → CallsOf file n calls count
+    calls-fit m =
+        let w : length calls ≡ length zeros = rw (l .kept) (length-sets zeros 0 (placesOf Call (bodyExprs (placedAt file n)))) in
+        record { room = omega arith; listed = listed-front (placesOf Call (bodyExprs (placedAt file n))) zeros calls count l m }
 
+    -- as one of this length has
+    pub calls-all : (j : ℕ) → Standing file n j → length zeros ≡ 10923 → CallsOf file n calls count
+    calls-all j h k = calls-fit (omega (arith, l .count, calls-few, length-drop n file, h .short))
+
+  module _ (j : ℕ) (h : Standing file n j) (calls : List ℕ) (count : ℕ) (l : CallsOf file n calls count) where
     pub entry-calls : (number : ℕ) → number < 65536 → Calls calls count number j
-    entry-calls number o = record { room = entry-room; small = o; few = omega (arith, entry-room, h .few) }
+    entry-calls number o =
+        let d : length (placesOf Call (bodyExprs (placedAt file n))) ≡ count = rw (← l .listed) (length-take-le count calls (l .room)) in
+        record { room = l .room; small = o; few = omega (arith, calls-few, length-drop n file, h .short, h .few) }
 
     entry-numbers : flatMap (numbersAt file (front (drop n file)) (tokensNumber file (placedAt file n))) (take count calls) ≡ fundingsOf file (placedAt file n)
     unfolding fundingsOf
     entry-numbers =
-        let m : count ≤ length zeros = omega (arith, entry-room) in
         let b : length file < 65536 = omega (arith, h .short) in
-        rw (listed-front (placesOf Call (bodyExprs (placedAt file n))) zeros calls count l m, body-places file n Call b)
+        rw (l .listed, body-places file n Call b)
         (numbers-read file (front (drop n file)) (tokensNumber file (placedAt file n)) (bodyExprs (placedAt file n)) (body-stands file (placedAt file n) refl)
         (rw (← body-places file n Call b) (two-bytes (ofTag Call (bodyExprs (placedAt file n))))))
 
@@ -212,3 +217,30 @@ module _ (file : List ℕ) (n : ℕ) where
       pub entry-all : (number : ℕ) → number ≡ tokensNumber file (placedAt file n) → (last : List ℕ) (r : ℕ) →
           Listed (flatMap (numbersAt file (front s) number) (take count calls)) table j last r → Listed (fundingsOf file (placedAt file n)) table j last r
       entry-all number f last r p = rw (← entry-numbers, ← f, ← e) p
+
+-- An entry without asset parameters
+
+any-of-none : (f : List ℕ → Bool) (l : List (List ℕ)) → length l ≡ 0 → any f l ≡ false
+unfolding any
+any-of-none f [] z = refl
+any-of-none f (x ∷ xs) z = absurd (omega (arith, z))
+
+-- none of its calls funds a map, since nothing comes in with it
+no-inflow : (entry f : Field) → length (assetParams entry) ≡ 0 → isFundingCall entry f ≡ false
+unfolding isFundingCall isInflow
+no-inflow entry f z = go (isCredit f) (assetParams entry) z
+  where
+    go : (k : Bool) (ps : List (List ℕ)) → length ps ≡ 0 → k && any (sameBytes (assetAmountBacker (peel (part 2 f)))) ps ≡ false
+    go true ps z = any-of-none (sameBytes (assetAmountBacker (peel (part 2 f)))) ps z
+    go false ps z = refl
+
+no-assets : (entry : Field) → length (assetParams entry) ≡ 0 → (number : ℕ) (ps : List Placed) → flatMap (numbersOf entry number) ps ≡ []
+unfolding flatMap numbersOf
+no-assets entry z number [] = refl
+no-assets entry z number (p ∷ ps) = rw (no-inflow entry (p .this) z, no-assets entry z number ps)
+
+pub no-fundings : (file : List ℕ) (n : ℕ) (s : List ℕ) → s ≡ drop n file → (k : ℕ) → k ≡ length (assetParams (front s)) → k ≡ 0 →
+    (table : List ℕ) (j : ℕ) → Listed (fundingsOf file (placedAt file n)) table j table j
+unfolding fundingsOf
+no-fundings file n s e k f z table j =
+    rw (no-assets (front (drop n file)) (rw (← e) (sym f ∙ z)) (tokensNumber file (placedAt file n)) (bodyExprs (placedAt file n))) (listed-none table j)

@@ -7,7 +7,7 @@ use native.Mathlib.Omega.{arith}
 use borrow.Author.Tests.{le-leb}
 use lib.Dec.{eqb}
 use lib.ListN.{length, getD, take, drop, length-drop, drop-of-length-le}
-use lib.Seq.{length-take-le, getD-take, drop-drop}
+use lib.Seq.{length-take-le, getD-take, length-sets, drop-drop}
 use Rattle.fields.specs.Lists.{all, filter, known}
 use Rattle.fields.specs.Tag.{Eq}
 use Rattle.fields.specs.Table.{Listed}
@@ -20,11 +20,11 @@ use Rattle.walking.specs.Table.{placedAt}
 use Rattle.conditions.specs.Conditions.{Condition, requiredConditions, operator}
 use Rattle.conditions.specs.Table.{marks, conditionAt}
 use Rattle.conditions.proofs.Callers.{Holds, Ends, conditions-stand, conditions-end, table-wide, table-read}
-use Rattle.tokens.specs.Tokens.{besideInAsset, tokenNamed, tokensNamed}
+use Rattle.tokens.specs.Tokens.{besideInAsset, tokenNamed, tokensNamed, admittedInflowToken}
 use Rattle.tokens.specs.Agreed.{tokenAt}
-use Rattle.tokens.specs.Fundings.{tokenOf, joined, joinedAll, conditionNumber, tokensNumber, Standing}
+use Rattle.tokens.specs.Fundings.{tokenOf, joined, joinedAll, conditionNumber, tokensNumber, ConditionsOf, Standing}
 use Rattle.tokens.proofs.Agreeing.{unknown, is-known}
-use Rattle.tokens.proofs.Joining.{Means, means-all, joined-small}
+use Rattle.tokens.proofs.Joining.{Means, means-token, means-all, joined-small}
 
 -- What the code tests
 
@@ -86,6 +86,12 @@ entry-means file p s =
     (means-all file (conditionNumber (p .place)) namedBy 0 [] (requiredConditions (p .this)) refl
     (conditions-mean file (p .place) (requiredConditions (p .this)) (rw s at (conditions-stand (drop (p .place) file)))))
 
+-- so the token that it stands for is the one that the entry admits
+pub number-token : (s : List ℕ) (k : ℕ) → k ≡ tokensNumber s (placedAt s 0) → (r : List ℕ) → r ≡ tokenOf s k → r ≡ admittedInflowToken (front s)
+unfolding admittedInflowToken
+number-token s k e r f =
+    f ∙ rw e (means-token s (tokensNumber s (placedAt s 0)) (tokensNamed (front s)) (entry-means s (placedAt s 0) refl))
+
 -- Two bytes hold it
 
 conditions-small : (n b : ℕ) (cs : List Condition) → n + b ≤ 32768 → Every (Holds (Ends b)) cs → Every (λ k. k ≤ 32768) (map (conditionNumber n) cs)
@@ -137,21 +143,32 @@ unfolding markNumber
 mapped-marks entry n [] = refl
 mapped-marks entry n (k ∷ ks) = rw (mapped-marks entry n ks)
 
-module _ (file : List ℕ) (n : ℕ) (h : Standing file n 0) (s : List ℕ) (e : s ≡ drop n file) where
-  pub joining-all : (zeros table : List ℕ) (count : ℕ) → Listed (marks (requiredConditions (front s))) zeros 0 table count →
-      length zeros ≡ 10923 → length table ≡ length zeros → Joining (markNumber s n) file table count (tokensNumber file (placedAt file n)) 0 0
-  unfolding tokensNumber
-  joining-all zeros table count l k w =
-      let d : length s ≤ 32768 = rw (e, length-drop n file) (omega (arith, h .short)) in
-      let m : count ≤ length zeros = table-wide s zeros table count l (omega arith) in
-      record {
-        within = omega arith;
-        room = omega (arith, m);
-        left = rw (mapped-marks s n (take count table), table-read s zeros table count l d m, e);
-      }
+module _ (file : List ℕ) (n : ℕ) (s : List ℕ) (e : s ≡ drop n file) where
+  module _ (h : Standing file n 0) (zeros table : List ℕ) (count : ℕ) (l : Listed (marks (requiredConditions (front s))) zeros 0 table count) where
+    short : length s ≤ 32768
+    short = rw (e, length-drop n file) (omega (arith, h .short))
 
-  module _ (l : List ℕ) (count r i found : ℕ) (v : Joining (markNumber s n) file l count r i found) (o : i < count) (k : ℕ) (f : k ≡ getD l i 0)
-      (b : ℕ) (g : b ≡ conditionNumber n (conditionAt s k)) (u : ℕ) (q : u ≡ joined file found b) where
-    pub joining-on : Joining (markNumber s n) file l count r (i + 1) u
-    unfolding markNumber
-    joining-on = joining-step (markNumber s n) file l count r i found v o b (rw (← f) g) u q
+    -- a table that has room for all conditions holds them in front
+    pub conditions-fit : count ≤ length zeros → ConditionsOf (drop n file) table count
+    conditions-fit m =
+        let w : length table ≡ length zeros = rw (l .kept) (length-sets zeros 0 (marks (requiredConditions (front s)))) in
+        record { room = omega arith; read = rw (← e) (table-read s zeros table count l short m) }
+
+    -- as one of this length has
+    pub conditions-all : length zeros ≡ 10923 → ConditionsOf (drop n file) table count
+    conditions-all k = conditions-fit (table-wide s zeros table count l (omega (arith, short)))
+
+  module _ (l : List ℕ) (count : ℕ) where
+    pub joining-all : ConditionsOf (drop n file) l count → Joining (markNumber s n) file l count (tokensNumber file (placedAt file n)) 0 0
+    unfolding tokensNumber
+    joining-all c = record {
+      within = omega arith;
+      room = c .room;
+      left = rw (e, mapped-marks (drop n file) n (take count l), c .read);
+    }
+
+    module _ (r i found : ℕ) (v : Joining (markNumber s n) file l count r i found) (o : i < count) (k : ℕ) (f : k ≡ getD l i 0)
+        (b : ℕ) (g : b ≡ conditionNumber n (conditionAt s k)) (u : ℕ) (q : u ≡ joined file found b) where
+      pub joining-on : Joining (markNumber s n) file l count r (i + 1) u
+      unfolding markNumber
+      joining-on = joining-step (markNumber s n) file l count r i found v o b (rw (← f) g) u q

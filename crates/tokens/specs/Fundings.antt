@@ -8,10 +8,13 @@ use mathlib.Core.List.{List, [], _∷_, map, flatMap}
 use lib.Dec.{eqb, leb}
 use lib.ListN.{length, take, drop}
 use Rattle.fields.specs.Lists.{sameBytes, known}
+use Rattle.fields.specs.Tag.{Call}
 use Rattle.fields.specs.Field.{Field, Placed, fields, front, part}
 use Rattle.questions.specs.Model.{entries}
 use Rattle.walking.specs.Walking.{peel, receiver, bodyExprs}
+use Rattle.walking.specs.Table.{placedAt, placesOf}
 use Rattle.conditions.specs.Conditions.{Condition, requiredConditions}
+use Rattle.conditions.specs.Table.{conditionAt}
 use Rattle.tokens.specs.Tokens.{besideInAsset, tokenNamed, isInflow, isCredit}
 
 -- Sets of tokens
@@ -87,6 +90,16 @@ pub record Calls (calls : List ℕ) (count number n : ℕ) : Type 0 where
   pub room : count ≤ length calls
   pub small : number < 65536
   pub few : n + 2 * count ≤ 131072
+
+-- the first `count` numbers of a table are the places of the calls of the entry at a place
+pub record CallsOf (file : List ℕ) (place : ℕ) (calls : List ℕ) (count : ℕ) : Type 0 where
+  pub room : count ≤ length calls
+  pub listed : take count calls ≡ placesOf Call (bodyExprs (placedAt file place))
+
+-- the first `count` numbers of a table stand for the conditions of an entry, with which this part of the file starts
+pub record ConditionsOf (entry table : List ℕ) (count : ℕ) : Type 0 where
+  pub room : count ≤ length table
+  pub read : map (conditionAt entry) (take count table) ≡ requiredConditions (front entry)
 
 -- the entry stands in a file that passes question 1, where n numbers were listed before
 pub record Standing (file : List ℕ) (place n : ℕ) : Type 0 where

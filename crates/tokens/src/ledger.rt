@@ -3,10 +3,10 @@
 // place in the file, and the set of tokens that its entry names as one number.
 use super::inflow::is_credit;
 use super::inflow::is_inflow;
-use super::naming::beside_in_asset;
-use super::naming::token_at;
+use super::number::join;
+use super::number::token_of;
+use super::number::tokens_number;
 use super::token::ledger_funding_token;
-use conditions::list::list_conditions;
 use fields::bytes::same_bytes;
 use fields::bytes::skip;
 use fields::front::after_front;
@@ -17,6 +17,7 @@ use fields::table::note;
 use fields::table::number_at;
 use fields::tag::CALL;
 use fields::tag::ENTRY;
+use walking::parameters::count_asset_parameters;
 use walking::peel::peel;
 use walking::shape::receiver;
 use walking::walk::list_body;
@@ -24,82 +25,15 @@ ghost use mathlib.Core.Path.{_≡_};
 ghost use mathlib.Core.List.{flatMap};
 ghost use Prim.Native.Nat.{_≤_, _<_};
 ghost use lib.ListN.{length, take};
-ghost use Rattle.fields.specs.Lists.{any, sameBytes};
+ghost use Rattle.fields.specs.Lists.{any};
 ghost use Rattle.fields.specs.Field.{fields, front};
 ghost use Rattle.fields.specs.Table.{Listed};
 ghost use Rattle.walking.specs.Table.{placedAt};
-ghost use Rattle.conditions.specs.Table.{conditionAt};
 ghost use Rattle.tokens.specs.Tokens.{fundingToken};
-ghost use Rattle.tokens.specs.Fundings.{tokenOf, joined, conditionNumber, tokensNumber, isFundingCall, fundingsOf, fundings, Fundings, foundWith, foundThrough, fundingCallAt, numbersAt, Calls, Standing};
+ghost use Rattle.tokens.specs.Fundings.{isFundingCall, fundingsOf, fundings, Fundings, foundWith, foundThrough, fundingCallAt, numbersAt, Calls, CallsOf, Standing};
 
 // What a caller says that listed nothing.
 pub const NOT_LISTED: usize = 65535;
-
-// The one token of a set; no bytes where it is empty or has two that differ.
-fn token_of(file: &[u8], number: usize) -> &[u8]
-    ensures { λ r. ⌜ now r ≡ tokenOf (now (file .entry)) number ⌝ }
-{
-    if number < 2 {
-        return &file[..0];
-    }
-    beside_in_asset(skip(file, number - 2))
-}
-
-// Whether two sets have the same token.
-fn same_token(file: &[u8], a: usize, b: usize) -> bool
-    ensures { λ r. ⌜ r ≡ sameBytes (tokenOf (now (file .entry)) a) (tokenOf (now (file .entry)) b) ⌝ }
-{
-    same_bytes(token_of(file, a), token_of(file, b))
-}
-
-// Two sets together.
-fn join(file: &[u8], a: usize, b: usize) -> usize
-    ensures { λ r. ⌜ r ≡ joined (now (file .entry)) a b ⌝ }
-{
-    if b == 0 {
-        return a;
-    }
-    if a == 0 {
-        return b;
-    }
-    if a == b {
-        return a;
-    }
-    if same_token(file, a, b) {
-        return a;
-    }
-    1
-}
-
-// The set that a condition names, whose mark in the table of conditions is given, of the entry that stands at a place.
-fn condition_number(entry: &[u8], place: usize, mark: usize) -> usize
-    requires { ⌜ place ≤ 32768 ⌝ }
-    ensures { λ r. ⌜ r ≡ conditionNumber place (conditionAt (now (entry .entry)) mark) ⌝ }
-{
-    if token_at(entry, mark).len() == 0 {
-        return 0;
-    }
-    place + mark % 32768 + 2
-}
-
-// The set of tokens that the entry at a place names. Its conditions are listed once.
-fn tokens_number(file: &[u8], place: usize) -> usize
-    requires { ⌜ Standing (now file) place 0 ⌝ }
-    ensures reads { λ r. ⌜ r ≡ tokensNumber (now (file .entry)) (placedAt (now (file .entry)) place) ⌝ }
-    ensures small { λ r. ⌜ r < 65536 ⌝ }
-{
-    let entry = skip(file, place);
-    let mut table = [0u16; 10923];
-    let count = list_conditions(entry, &mut table);
-    let mut number = 0;
-    let mut i = 0;
-    while i < count {
-        let named = condition_number(entry, place, number_at(&table, i));
-        number = join(file, number, named);
-        i += 1;
-    }
-    number
-}
 
 // Whether the call at the front of s funds some map.
 fn is_funding_call(entry: &[u8], s: &[u8]) -> bool
@@ -165,19 +99,45 @@ fn list_calls(
     m
 }
 
-// The same of the entry at a place of the file. What the entry names is worked out once, and only where a call asks for it.
+// The same of the calls of the entry at a place of the file. What the entry names is worked out once, and only where a call
+// asks for it.
+fn list_calls_of(
+    file: &[u8],
+    place: usize,
+    calls: &[u16],
+    count: usize,
+    table: &mut [u16],
+    n: usize,
+) -> usize
+    requires standing { ⌜ Standing (now file) place n ⌝ }
+    requires listed { ⌜ CallsOf (now file) place (now calls) count ⌝ }
+    ensures { λ r. ⌜ Listed (fundingsOf (now (file .entry)) (placedAt (now (file .entry)) place)) (now (table .entry)) n (now (table .exit)) r ⌝ }
+{
+    let entry = skip(file, place);
+    if !has_funding_call(file, entry, calls, count) {
+        return n;
+    }
+    let number = tokens_number(file, place);
+    list_calls(file, entry, calls, count, number, table, n)
+}
+
+// The same with no table of its calls at hand. An entry without asset parameters funds nothing, so its body is not walked.
+// As of conditions, there are few calls in almost every body.
 fn list_entry(file: &[u8], place: usize, table: &mut [u16], n: usize) -> usize
     requires { ⌜ Standing (now file) place n ⌝ }
     ensures { λ r. ⌜ Listed (fundingsOf (now (file .entry)) (placedAt (now (file .entry)) place)) (now (table .entry)) n (now (table .exit)) r ⌝ }
 {
-    let entry = skip(file, place);
-    let mut calls = [0u16; 10923];
-    let count = list_body(file, place, CALL, &mut calls);
-    if !has_funding_call(file, entry, &calls, count) {
+    if count_asset_parameters(skip(file, place)) == 0 {
         return n;
     }
-    let number = tokens_number(file, place);
-    list_calls(file, entry, &calls, count, number, table, n)
+    let mut few = [0u16; 256];
+    let count = list_body(file, place, CALL, &mut few);
+    if count <= 256 {
+        return list_calls_of(file, place, &few, count, table, n);
+    }
+    let mut many = [0u16; 10923];
+    let all = list_body(file, place, CALL, &mut many);
+    list_calls_of(file, place, &many, all, table, n)
 }
 
 // Lists all calls of the file that fund some map, two numbers each, as far as the table has room, and answers how many

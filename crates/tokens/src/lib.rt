@@ -3,5 +3,6 @@ pub mod funding;
 pub mod inflow;
 pub mod ledger;
 pub mod naming;
+pub mod number;
 pub mod set;
 pub mod token;

@@ -2,6 +2,8 @@
 // The token that an entry admits, and the one that funds a map. Each is a part of the file, and no token is the empty part.
 use super::funding::first_funding;
 use super::naming::token_at;
+use super::number::token_of;
+use super::number::tokens_number;
 use super::set::known_of;
 use super::set::tokens_differ;
 use conditions::list::list_conditions;
@@ -21,20 +23,7 @@ pub fn admitted_inflow_token(s: &[u8]) -> &[u8]
     ensures reads { λ r. ⌜ now r ≡ admittedInflowToken (front (now (s .entry))) ⌝ }
     ensures shows { λ r. ⌜ now r ≡ take (length (now r)) (drop (admittedPlace (length (now (s .entry))) (front (now (s .entry)))) (now (s .entry))) ⌝ }
 {
-    let mut table = [0u16; 10923];
-    let count = list_conditions(s, &mut table);
-    let mut found = &s[..0];
-    let mut i = 0;
-    while i < count {
-        let token = token_at(s, number_at(&table, i));
-        if tokens_differ(found, token) {
-            return &s[..0];
-        }
-        let known = known_of(found, token);
-        found = known;
-        i += 1;
-    }
-    found
+    token_of(s, tokens_number(s, 0))
 }
 
 // The one token named by the entries that fund the map; none where they name none, or two that differ.

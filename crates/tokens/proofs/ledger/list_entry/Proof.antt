@@ -1,5 +1,5 @@
--- The table has all calls of the body; where none of them funds a map nothing is listed.
-use Rattle.tokens.proofs.Filling.{standing-start, entry-room, entry-none, entry-calls, entry-all}
+-- A table that has room for all calls holds them: the small one where the count says so, and the large one always.
+use Rattle.tokens.proofs.Filling.{no-fundings, calls-fit, calls-all}
 use borrow.Author.Needs.{needs}
 use Rattle.tokens.proofs.ledger.list_entry.Statement.{statement}
 use Rattle.tokens.proofs.ledger.list_entry.Tie as tie
@@ -9,13 +9,17 @@ list-entry-spec =
     tie.close
     (tie.spec
     (λ c κs. search needs)  -- skip-requires
+    (λ c κs. search needs)  -- count-asset-parameters-requires
+    (λ c. search no-fundings)  -- returns
     (λ c. search needs)  -- slice-aggregate-list-body
     (λ c κs. search needs)  -- list-body-requires
-    (λ c. search needs)  -- slice-aggregate-has-funding-call
-    (λ c κs. search (entry-room, needs))  -- has-funding-call-requires
-    (λ c. search (entry-none, needs))  -- returns
-    (λ c κs. search standing-start)  -- tokens-number-requires
-    (λ c. search needs)  -- slice-aggregate-list-calls
-    (λ c κs. search (entry-calls, needs))  -- list-calls-requires
+    (λ c. search needs)  -- slice-aggregate-list-calls-of
+    (λ c κs. (search needs, search (calls-fit, needs)))  -- list-calls-of-requires
     (λ c. search needs)  -- same-length
-    (λ c. search (entry-all, needs)))  -- returns-2
+    (λ c. search needs)  -- returns-2
+    (λ c. search needs)  -- slice-aggregate-list-body-2
+    (λ c κs. search needs)  -- list-body-requires-2
+    (λ c. search needs)  -- slice-aggregate-list-calls-of-2
+    (λ c κs. (search needs, search (calls-all, needs)))  -- list-calls-of-requires-2
+    (λ c. search needs)  -- same-length-2
+    (λ c. search needs))  -- returns-3

@@ -1,8 +1,8 @@
 -- A condition that names no token has the number 0.
 use Rattle.tokens.proofs.Numbers.{number-none, number-some}
 use borrow.Author.Needs.{needs}
-use Rattle.tokens.proofs.ledger.condition_number.Statement.{statement}
-use Rattle.tokens.proofs.ledger.condition_number.Tie as tie
+use Rattle.tokens.proofs.number.condition_number.Statement.{statement}
+use Rattle.tokens.proofs.number.condition_number.Tie as tie
 
 pub condition-number-spec : {M : Type 1} → statement M
 condition-number-spec =

@@ -1,8 +1,8 @@
 -- An empty set adds nothing, the same token neither, and two that differ leave 1.
 use Rattle.tokens.proofs.Joining.{joined-empty, joined-first, joined-equal, joined-same, joined-differ}
 use borrow.Author.Needs.{needs}
-use Rattle.tokens.proofs.ledger.join.Statement.{statement}
-use Rattle.tokens.proofs.ledger.join.Tie as tie
+use Rattle.tokens.proofs.number.join.Statement.{statement}
+use Rattle.tokens.proofs.number.join.Tie as tie
 
 pub join-spec : {M : Type 1} → statement M
 join-spec =

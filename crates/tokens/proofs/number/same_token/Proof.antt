@@ -1,7 +1,7 @@
 -- The tokens of the two are compared byte by byte.
 use borrow.Author.Needs.{needs}
-use Rattle.tokens.proofs.ledger.same_token.Statement.{statement}
-use Rattle.tokens.proofs.ledger.same_token.Tie as tie
+use Rattle.tokens.proofs.number.same_token.Statement.{statement}
+use Rattle.tokens.proofs.number.same_token.Tie as tie
 
 pub same-token-spec : {M : Type 1} → statement M
 same-token-spec =

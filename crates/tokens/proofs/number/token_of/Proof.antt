@@ -1,8 +1,8 @@
 -- A number below 2 stands for no token, and any other for what the comparison at its place names.
 use Rattle.tokens.proofs.Joining.{token-none, token-there}
 use borrow.Author.Needs.{needs}
-use Rattle.tokens.proofs.ledger.token_of.Statement.{statement}
-use Rattle.tokens.proofs.ledger.token_of.Tie as tie
+use Rattle.tokens.proofs.number.token_of.Statement.{statement}
+use Rattle.tokens.proofs.number.token_of.Tie as tie
 
 pub token-of-spec : {M : Type 1} → statement M
 token-of-spec =
