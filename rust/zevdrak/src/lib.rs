@@ -144,12 +144,21 @@ pub fn covers(bytes: &[u8]) -> Vec<Cover> {
 /// The listing of a model file, as the program `payouts` prints it.
 pub fn listing(file: &[u8]) -> Vec<u8> {
     let mut buffer = vec![0; LISTING];
-    let length = unsafe {
-        c::zevdrak_listing(file.as_ptr(), file.len(), buffer.as_mut_ptr(), buffer.len())
-    };
+    let length = listing_into(file, &mut buffer).len();
     buffer.truncate(length);
     buffer
 }
 
+/// The same in a lent buffer: all entries of a file by one call, which asks the
+/// questions about the file once. Where the buffer is shorter than
+/// [`LISTING`] the end of the listing may be left out.
+pub fn listing_into<'a>(file: &[u8], buffer: &'a mut [u8]) -> &'a [u8] {
+    // The function reads the file, writes the buffer, and keeps neither.
+    let length = unsafe {
+        c::zevdrak_listing(file.as_ptr(), file.len(), buffer.as_mut_ptr(), buffer.len())
+    };
+    &buffer[..length]
+}
+
 /// Bytes that are enough for the listing of every file.
-const LISTING: usize = 65_536;
+pub const LISTING: usize = 65_536;
