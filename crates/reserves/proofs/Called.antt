@@ -1,37 +1,50 @@
 -- The calls of an entry's body are all in the table, and a test that only a call passes needs no others.
-use Prim.Native.Nat.{ℕ, _+_, _≤_, _<_}
-use mathlib.Core.Path.{_≡_, refl, _∙_}
+use Prim.Native.Nat.{ℕ, _+_, _*_, _≤_, _<_}
+use mathlib.Core.Path.{_≡_, refl, ap, _∙_}
 use mathlib.Core.Bool.{Bool, true, false, cond, not}
 use mathlib.Core.List.{List, [], _∷_, map}
 use native.Mathlib.Omega.{arith}
-use borrow.Author.Tests.{not-true, not-false}
+use borrow.Author.Tests.{not-true, not-false, leb-true}
 use lib.ListN.{length, getD, take, drop, drop-of-length-le}
 use lib.Seq.{length-take-le, getD-take}
 use Rattle.fields.specs.Lists.{any, filter, sameBytes}
 use Rattle.fields.specs.Tag.{Call}
 use Rattle.fields.specs.Table.{Listed}
-use Rattle.fields.specs.Field.{Field, front, part}
+use Rattle.fields.specs.Field.{Field, lengthOf, whole, front, part, size, sizes}
 use Rattle.fields.proofs.Bools.{and-left}
 use Rattle.fields.proofs.Lists.{any-first}
 use Rattle.fields.proofs.Reading.{front-none}
+use Rattle.fields.proofs.Places.{front-size}
 use Rattle.fields.proofs.Slices.{drop-step}
 use Rattle.fields.proofs.Tables.{listed-front}
 use Rattle.fields.proofs.Seeking.{Seeking, seeking-found, seeking-on}
 use Rattle.walking.specs.Walking.{peel, method, isDebit, exprs, bodyExprs}
 use Rattle.walking.specs.Table.{placedAt, placesOf}
 use Rattle.walking.proofs.Calls.{isCall, debit-call}
-use Rattle.walking.proofs.Callers.{body-read}
+use Rattle.walking.proofs.Callers.{body-few, body-read}
 use Rattle.equality.specs.Equality.{exprEq}
 use Rattle.tokens.specs.Tokens.{isCredit}
-use Rattle.tokens.proofs.Funded.{few-calls, any-mapped}
+use Rattle.tokens.proofs.Funded.{any-mapped}
 use Rattle.reserves.specs.Reserves.{credited}
 use Rattle.reserves.specs.Raising.{CallsOf, withAmount, firstOf, debitOf}
 
+-- a call takes three bytes at least
+calls-few : (s : List ℕ) → 3 * length (placesOf Call (bodyExprs (placedAt s 0))) ≤ length s
+unfolding size sizes
+calls-few s = go (whole s) refl
+  where
+    few : 3 + 3 * length (placesOf Call (bodyExprs (placedAt s 0))) ≤ size (front s)
+    few = body-few (placedAt s 0) Call
+
+    go : (w : Bool) → whole s ≡ w → 3 * length (placesOf Call (bodyExprs (placedAt s 0))) ≤ length s
+    go true w = omega (arith, few, front-size s w, leb-true (3 + lengthOf s) (length s) w)
+    go false w = omega (arith, few, ap size (front-none s w))
+
 -- what list_body writes
 pub calls-listed : (s : List ℕ) → length s ≤ 32768 → (table calls : List ℕ) (count : ℕ) →
-    Listed (placesOf Call (bodyExprs (placedAt s 0))) table 0 calls count → length table ≡ 10923 → length calls ≡ length table → CallsOf s calls count
+    Listed (placesOf Call (bodyExprs (placedAt s 0))) table 0 calls count → length s ≤ 3 * length table → length calls ≡ length table → CallsOf s calls count
 calls-listed s h table calls count l k w =
-    let enough : count ≤ length table = omega (arith, l .count, few-calls s h) in
+    let enough : count ≤ length table = omega (arith, l .count, calls-few s) in
     record {
       room = omega arith;
       read =

@@ -7,7 +7,7 @@ use mathlib.Core.List.{List, [], _∷_, _++_}
 use native.Mathlib.Omega.{arith}
 use borrow.Author.Tests.{leb-true, eqb-true}
 use lib.Dec.{eqb}
-use lib.ListN.{length, getD, drop}
+use lib.ListN.{length, getD, take, drop}
 use Rattle.fields.specs.Lists.{any, sameBytes, bytes}
 use Rattle.fields.specs.Tag.{Member, Identifier, isExpression}
 use Rattle.fields.specs.Table.{Listed}
@@ -18,13 +18,14 @@ use Rattle.fields.proofs.Lists.{any-first, map-append}
 use Rattle.fields.proofs.Reading.{front-none}
 use Rattle.fields.proofs.Places.{front-size}
 use Rattle.fields.proofs.Tables.{listed-front}
-use Rattle.fields.proofs.Seeking.{Seeking, seeking-found, seeking-on}
+use Rattle.fields.proofs.Seeking.{Seeking, seeking-all, seeking-found, seeking-on}
 use Rattle.walking.specs.Walking.{walk, walkParts, withoutPlaces, ident, assetAmountBacker, assetParams}
 use Rattle.walking.specs.Table.{placesOf}
 use Rattle.walking.proofs.Callers.{expression-few, expression-read}
 use Rattle.tokens.specs.Tokens.{isInflow}
 use Rattle.tokens.proofs.Funded.{any-mapped}
 use Rattle.reserves.specs.Reserves.{containsInflow}
+use Rattle.reserves.specs.Members.{MembersOf, membersIn, memberInflow}
 use Rattle.reserves.proofs.General.{or-left, or-either, any-left}
 
 abbrev isMember : Field → Bool
@@ -100,28 +101,37 @@ few-members s h = go (whole s) refl
     go true w = omega (arith, few, front-size s w, leb-true (3 + lengthOf s) (length s) w)
     go false w = omega (arith, few, ap size (front-none s w))
 
+-- what list_expression writes where the table has room for all
+pub members-listed : (s table members : List ℕ) (count : ℕ) → Listed (placesOf Member (walk 0 (front s))) table 0 members count →
+    length s ≤ 32768 → length members ≡ length table → count ≤ length table → MembersOf s members count
+unfolding membersIn
+members-listed s table members count l h w k = record {
+  room = omega arith;
+  read = rw (listed-front (placesOf Member (walk 0 (front s))) table members count l k) (expression-read s Member (omega arith));
+}
+
+-- as has a table of 10,923 numbers for every amount
+pub members-many : (s table members : List ℕ) (count : ℕ) → Listed (placesOf Member (walk 0 (front s))) table 0 members count →
+    length s ≤ 32768 → length members ≡ length table → length table ≡ 10923 → MembersOf s members count
+members-many s table members count l h w k = members-listed s table members count l h w (omega (arith, l .count, few-members s h))
+
+-- so the members decide
+pub by-members : (entry amount : Field) (b : Bool) → b ≡ any (sameBytes []) (assetParams entry) → b ≡ false →
+    (r : Bool) → r ≡ memberInflow entry amount → r ≡ containsInflow entry amount
+unfolding memberInflow membersIn containsInflow
+by-members entry amount b e f r g =
+    g ∙ any-first (isInflow entry) isMember (member-only entry (sym e ∙ f)) (withoutPlaces (walk 0 amount))
+
 -- whether the member at a place of s is `p.amount`
 unfoldable pub inflowAt : (entry s : List ℕ) → ℕ → Bool
 inflowAt entry s n = isInflow (front entry) (front (drop n s))
 
-module _ (entry s : List ℕ) (h : length s ≤ 32768) (b : Bool) (e : b ≡ any (sameBytes []) (assetParams (front entry))) (f : b ≡ false)
-    (table members : List ℕ) (count : ℕ) (l : Listed (placesOf Member (walk 0 (front s))) table 0 members count) (k : length table ≡ 10923) where
-  enough : count ≤ length table
-  enough = omega (arith, l .count, few-members s h)
-
-  pub members-all : length members ≡ length table → Seeking (inflowAt entry s) members count 0 (containsInflow (front entry) (front s))
-  unfolding containsInflow inflowAt
-  members-all w = record {
-    within = omega arith;
-    room = omega (arith, enough);
-    left =
-        rw (
-          listed-front (placesOf Member (walk 0 (front s))) table members count l enough,
-          any-mapped (isInflow (front entry)) (λ n. front (drop n s)) (placesOf Member (walk 0 (front s))),
-          expression-read s Member (omega arith),
-        )
-        (any-first (isInflow (front entry)) isMember (member-only (front entry) (sym e ∙ f)) (withoutPlaces (walk 0 (front s))));
-  }
+pub members-all : (entry s members : List ℕ) (count : ℕ) → MembersOf s members count →
+    Seeking (inflowAt entry s) members count 0 (memberInflow (front entry) (front s))
+unfolding memberInflow inflowAt
+members-all entry s members count t =
+    seeking-all (inflowAt entry s) members count _ (t .room)
+    (rw (any-mapped (isInflow (front entry)) (λ n. front (drop n s)) (take count members), t .read))
 
 -- one member after the other
 module _ (entry s members : List ℕ) (count i : ℕ) (r : Bool) (v : Seeking (inflowAt entry s) members count i r) (h : i < count)

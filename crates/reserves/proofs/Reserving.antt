@@ -1,6 +1,6 @@
 -- Entry by entry, and in each raise by raise: the token found so far and those of the raises ahead have the one token of all, and
 -- the map that was looked up last has the token found.
-use Prim.Native.Nat.{ℕ, _≤_, _<_}
+use Prim.Native.Nat.{ℕ, _*_, _≤_, _<_}
 use mathlib.Core.Path.{_≡_, refl, sym, _∙_}
 use mathlib.Core.Bool.{Bool, true, false, cond}
 use mathlib.Core.List.{List, [], _∷_, _++_, map, flatMap}
@@ -36,8 +36,9 @@ tokensAhead file name entry t =
     map (raiseToken (fields file) (front entry)) (map (raisedBy name) (filter (isRaise name) (fieldsFrom Guard ExpressionStatement (fields (after t)))))
     ++ tokensBehind file name entry
 
-pub record Entries (file name found last entry : List ℕ) : Type 0 where
+pub record Entries (file name lent calls found last entry : List ℕ) : Type 0 where
   pub within : length entry ≤ length file
+  pub wide : length calls ≡ length lent
   pub kept : remembered (fields file) last found ≡ found
   pub left : held found (flatMap (tokensIn (fields file) name) (raisingFrom name entry)) ≡ wanted file name
 
@@ -50,29 +51,30 @@ pub record Raises (file name fundings : List ℕ) (fundingsCount : ℕ) (entry c
   pub kept : remembered (fields file) last found ≡ found
   pub left : held found (map (raiseToken (fields file) (front entry)) (map (raisedBy name) (raisesFrom name t)) ++ tokensBehind file name entry) ≡ wanted file name
 
-pub entries-all : (file name found last entry : List ℕ) → found ≡ [] → last ≡ [] →
-    filter (raising name) (fieldsFrom Entry Entry (fields file)) ≡ raisingFrom name entry → length entry ≤ length file → Entries file name found last entry
+pub entries-all : (file name lent found last entry : List ℕ) → found ≡ [] → last ≡ [] →
+    filter (raising name) (fieldsFrom Entry Entry (fields file)) ≡ raisingFrom name entry → length entry ≤ length file → Entries file name lent lent found last entry
 unfolding remembered known
-entries-all file name found last entry e f g h = record {
+entries-all file name lent found last entry e f g h = record {
   within = h;
+  wide = refl;
   kept = rw f;
   left = rw (e, ← g, held-none, raise-tokens (fields file) name);
 }
 
-module _ (file name found last entry : List ℕ) (i : Entries file name found last entry) where
+module _ (file name lent table found last entry : List ℕ) (i : Entries file name lent table found last entry) where
   pub entries-end : whole entry ≡ false → found ≡ wanted file name
   unfolding flatMap
   entries-end w = held-alone found ∙ (rw w at (i .left))
 
-  pub raises-all : length file ≤ 32768 → (fundings : List ℕ) (fundingsCount : ℕ) → Fundings file fundings fundingsCount → whole entry ≡ true → (zeros calls : List ℕ) (count : ℕ) → Listed (placesOf Call (bodyExprs (placedAt entry 0))) zeros 0 calls count →
-      length zeros ≡ 10923 → length calls ≡ length zeros → (guarded : List ℕ) → guarded ≡ only (guardTokens (front entry)) → (noName : Bool) → noName ≡ nameless (front entry) →
+  pub raises-all : length file ≤ 32768 → (fundings : List ℕ) (fundingsCount : ℕ) → Fundings file fundings fundingsCount → length file ≤ 3 * length lent → whole entry ≡ true → (calls : List ℕ) (count : ℕ) → Listed (placesOf Call (bodyExprs (placedAt entry 0))) table 0 calls count →
+      length calls ≡ length table → (guarded : List ℕ) → guarded ≡ only (guardTokens (front entry)) → (noName : Bool) → noName ≡ nameless (front entry) →
       (p t : List ℕ) → fields p ≡ parts (front entry) → filter (isRaise name) (fieldsFrom Guard ExpressionStatement (fields p)) ≡ raisesFrom name t →
       Raises file name fundings fundingsCount entry calls count guarded noName found last t
   unfolding flatMap tokensIn body
-  raises-all h fundings fundingsCount m w zeros calls count l k c guarded g noName n p t e f = record {
+  raises-all h fundings fundingsCount m k w calls count l c guarded g noName n p t e f = record {
     small = h;
     funded = m;
-    table = calls-listed entry (omega (arith, i .within)) zeros calls count l k c;
+    table = calls-listed entry (omega (arith, i .within)) table calls count l (omega (arith, i .within, i .wide)) c;
     guard = g;
     names = n;
     kept = i .kept;
@@ -119,10 +121,11 @@ module _ (file name fundings : List ℕ) (fundingsCount : ℕ) (entry calls : Li
       left = rw (← j) (held-on found token (tokensAhead file name entry t) (sym f ∙ h) ∙ here);
     }
 
-  pub entries-next : length entry ≤ length file → whole entry ≡ true → whole t ≡ false → (y u : List ℕ) → y ≡ after entry →
-      filter (raising name) (fieldsFrom Entry Entry (fields y)) ≡ raisingFrom name u → length u ≤ length y → Entries file name found last u
-  entries-next l v w y u e f h = record {
+  pub entries-next : (lent : List ℕ) → length calls ≡ length lent → length entry ≤ length file → whole entry ≡ true → whole t ≡ false → (y u : List ℕ) → y ≡ after entry →
+      filter (raising name) (fieldsFrom Entry Entry (fields y)) ≡ raisingFrom name u → length u ≤ length y → Entries file name lent calls found last u
+  entries-next lent a l v w y u e f h = record {
     within = omega (arith, after-less entry y v e);
+    wide = a;
     kept = i .kept;
     left = rw (← f, e) (rw w at (i .left));
   }

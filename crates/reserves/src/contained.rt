@@ -13,9 +13,37 @@ ghost use Prim.Native.Nat.{_≤_};
 ghost use lib.ListN.{length};
 ghost use Rattle.fields.specs.Field.{front};
 ghost use Rattle.reserves.specs.Reserves.{containsInflow};
+ghost use Rattle.reserves.specs.Members.{MembersOf, memberInflow};
 
-// Whether some asset parameter's `p.amount` stands in the expression at the front of amount. Only a member can be one. A
-// parameter without a name, which question 5 does not let pass, is what any expression of another shape names.
+// Whether one of the members in the expression at the front of amount, all of which a table has, is an asset parameter's
+// `p.amount`.
+fn has_inflow(entry: &[u8], amount: &[u8], members: &[u16], count: usize) -> bool
+    requires { ⌜ MembersOf (now amount) (now members) count ⌝ }
+    ensures { λ r. ⌜ r ≡ memberInflow (front (now (entry .entry))) (front (now (amount .entry))) ⌝ }
+{
+    let mut i = 0;
+    while i < count {
+        if is_inflow(entry, skip(amount, number_at(members, i))) {
+            return true;
+        }
+        i += 1;
+    }
+    false
+}
+
+// The same with a table that has room for the members of every amount.
+fn has_inflow_of_many(entry: &[u8], amount: &[u8]) -> bool
+    requires { ⌜ length (now amount) ≤ 32768 ⌝ }
+    ensures { λ r. ⌜ r ≡ memberInflow (front (now (entry .entry))) (front (now (amount .entry))) ⌝ }
+{
+    let mut members = [0u16; 10923];
+    let count = list_expression(amount, MEMBER, &mut members);
+    has_inflow(entry, amount, &members, count)
+}
+
+// Whether some asset parameter's `p.amount` stands in the expression at the front of amount. Only a member can be one. Few
+// amounts have more than 128, so a small table is tried first, which takes less time to clear. A parameter without a name,
+// which question 5 does not let pass, is what any expression of another shape names.
 pub fn contains_inflow(entry: &[u8], amount: &[u8]) -> bool
     requires { ⌜ length (now amount) ≤ 32768 ⌝ }
     ensures { λ r. ⌜ r ≡ containsInflow (front (now (entry .entry))) (front (now (amount .entry))) ⌝ }
@@ -23,14 +51,10 @@ pub fn contains_inflow(entry: &[u8], amount: &[u8]) -> bool
     if has_asset_parameter(entry, &entry[..0]) {
         return is_expression(tag_of(amount));
     }
-    let mut members = [0u16; 10923];
+    let mut members = [0u16; 128];
     let count = list_expression(amount, MEMBER, &mut members);
-    let mut i = 0;
-    while i < count {
-        if is_inflow(entry, skip(amount, number_at(&members, i))) {
-            return true;
-        }
-        i += 1;
+    if 128 < count {
+        return has_inflow_of_many(entry, amount);
     }
-    false
+    has_inflow(entry, amount, &members, count)
 }

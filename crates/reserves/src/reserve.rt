@@ -22,7 +22,7 @@ use walking::shape::is_present;
 use walking::shape::receiver;
 use walking::walk::list_body;
 ghost use mathlib.Core.Path.{_≡_};
-ghost use Prim.Native.Nat.{_≤_};
+ghost use Prim.Native.Nat.{_*_, _≤_};
 ghost use lib.ListN.{length};
 ghost use Rattle.fields.specs.Field.{fields, front};
 ghost use Rattle.tokens.specs.Tokens.{single, isInflow, fundingToken};
@@ -141,15 +141,18 @@ fn is_barred(found: &[u8], token: &[u8]) -> bool
     tokens_differ(found, token)
 }
 
-// The one token of all raises; none where there is no raise or one bars the field.
+// The one token of all raises; none where there is no raise or one bars the field. The calls of each entry are listed into the
+// lent table: a call takes three bytes of the file at least.
 fn raises_token<'a>(
     file: &'a [u8],
     name: &[u8],
     fundings: &[u16],
     fundings_count: usize,
+    calls: &mut [u16],
 ) -> &'a [u8]
     requires small { ⌜ length (now file) ≤ 32768 ⌝ }
     requires fundings { ⌜ Fundings (now file) (now fundings) «fundings_count» ⌝ }
+    requires room { ⌜ length (now file) ≤ 3 * length (now calls) ⌝ }
     ensures { λ r. ⌜ now r ≡ single (raiseTokens (fields (now (file .entry))) (now (name .entry))) ⌝ }
 {
     let mut found = &file[..0];
@@ -159,16 +162,15 @@ fn raises_token<'a>(
         if !is_whole(entry) {
             break found;
         }
-        let mut calls = [0u16; 10923];
-        let count = list_body(entry, 0, CALL, &mut calls);
+        let count = list_body(entry, 0, CALL, calls);
         let guarded = only_guard_token(entry);
         let unnamed = has_unnamed(entry);
         let mut t = first_raise(parts_of(entry), name);
         while is_whole(t) {
             let amount = raised_by(name, t);
             let inflow = comes_in(entry, amount, unnamed);
-            let debit = raise_debit(entry, amount, inflow, &calls, count);
-            let admitted = inflow_token(entry, amount, inflow, guarded, &calls, count);
+            let debit = raise_debit(entry, amount, inflow, calls, count);
+            let admitted = inflow_token(entry, amount, inflow, guarded, calls, count);
             let token = raise_token(file, debit, admitted, last, found, fundings, fundings_count);
             if is_barred(found, token) {
                 break 'search &file[..0];
@@ -182,6 +184,36 @@ fn raises_token<'a>(
         let next = first_raising(after_front(entry), name);
         entry = next;
     }
+}
+
+// The same with a table for a short file, which takes less time to clear.
+fn short_file_token<'a>(
+    file: &'a [u8],
+    name: &[u8],
+    fundings: &[u16],
+    fundings_count: usize,
+) -> &'a [u8]
+    requires short { ⌜ length (now file) ≤ 3072 ⌝ }
+    requires fundings { ⌜ Fundings (now file) (now fundings) «fundings_count» ⌝ }
+    ensures { λ r. ⌜ now r ≡ single (raiseTokens (fields (now (file .entry))) (now (name .entry))) ⌝ }
+{
+    let mut calls = [0u16; 1024];
+    raises_token(file, name, fundings, fundings_count, &mut calls)
+}
+
+// The same with a table for every file that passes question 1.
+fn long_file_token<'a>(
+    file: &'a [u8],
+    name: &[u8],
+    fundings: &[u16],
+    fundings_count: usize,
+) -> &'a [u8]
+    requires small { ⌜ length (now file) ≤ 32768 ⌝ }
+    requires fundings { ⌜ Fundings (now file) (now fundings) «fundings_count» ⌝ }
+    ensures { λ r. ⌜ now r ≡ single (raiseTokens (fields (now (file .entry))) (now (name .entry))) ⌝ }
+{
+    let mut calls = [0u16; 10923];
+    raises_token(file, name, fundings, fundings_count, &mut calls)
 }
 
 // The token that the state field of that name holds: it starts at zero, and all raises agree on one token; else none.
@@ -198,5 +230,8 @@ pub fn reserve_token<'a>(
     if !starts_at_zero(file, name) {
         return &file[..0];
     }
-    raises_token(file, name, fundings, fundings_count)
+    if file.len() <= 3072 {
+        return short_file_token(file, name, fundings, fundings_count);
+    }
+    long_file_token(file, name, fundings, fundings_count)
 }

@@ -1,4 +1,5 @@
 -- Entry by entry, and in each raise by raise, the token found so far and those ahead have the one token of all.
+use native.Mathlib.Omega.{arith}
 use borrow.Author.Needs.{needs}
 use lib.ListN.{length}
 use Rattle.fields.proofs.Told.{told}
@@ -10,16 +11,15 @@ pub raises-token-spec : {M : Type 1} → statement M
 raises-token-spec =
     tie.close
     (tie.spec
-    (λ file name fundings fundings-count found₀ last₀ entry calls count guarded unnamed t₀ found last t. Raises file name fundings fundings-count entry calls count guarded unnamed found last t)  -- Inv-loop
-    (λ file name fundings fundings-count found₀ last₀ entry calls count guarded unnamed t₀ found last t. length t)  -- μ-loop
-    (λ file name fundings fundings-count found₀ last₀ entry₀ found last entry. Entries file name found last entry)  -- Inv-search
-    (λ file name fundings fundings-count found₀ last₀ entry₀ found last entry. length entry)  -- μ-search
+    (λ file name fundings fundings-count calls found₀ last₀ entry count guarded unnamed t₀ found last t. Raises file name fundings fundings-count entry calls count guarded unnamed found last t)  -- Inv-loop
+    (λ file name fundings fundings-count calls found₀ last₀ entry count guarded unnamed t₀ found last t. length t)  -- μ-loop
+    (λ file name fundings fundings-count calls₀ found₀ last₀ entry₀ calls found last entry. Entries file name calls₀ calls found last entry)  -- Inv-search
+    (λ file name fundings fundings-count calls₀ found₀ last₀ entry₀ calls found last entry. length entry)  -- μ-search
     (λ c. search needs)  -- slice-aggregate-found
     (λ c. search needs)  -- slice-aggregate-last
     (λ c κs. search needs)  -- first-raising-requires
     (λ c. search (entries-all, needs))  -- search-holds
     (λ c κs. search needs)  -- is-whole-requires
-    (λ c. search needs)  -- slice-aggregate-list-body
     (λ c κs. search needs)  -- list-body-requires
     (λ c κs. search needs)  -- only-guard-token-requires
     (λ c κs. search needs)  -- has-unnamed-requires
@@ -29,9 +29,7 @@ raises-token-spec =
     (λ c κs. search needs)  -- is-whole-requires-2
     (λ c κs. search needs)  -- raised-by-requires
     (λ c κs. search needs)  -- comes-in-requires
-    (λ c. search needs)  -- slice-aggregate-raise-debit
     (λ c κs. search needs)  -- raise-debit-requires
-    (λ c. search needs)  -- slice-aggregate-inflow-token
     (λ c κs. search needs)  -- inflow-token-requires
     (λ c κs. (search needs, (search needs, search needs)))  -- raise-token-requires
     (λ c κs. search needs)  -- is-barred-requires
@@ -43,6 +41,8 @@ raises-token-spec =
     (λ c κs. search needs)  -- after-front-requires
     (λ c κs. search needs)  -- first-raising-requires-2
     (λ c. search (behind-less, told))  -- search-less
-    (λ c. search (entries-next, told))  -- search-again
+    (λ c. entries-next _ _ _ _ _ _ _ _ _ _ _ _ (c .before .before .before .before .loop .inv) _ (omega (arith, c .before .before .before .before .before .before .before .before .before .before .before .list-body .kept .1 .1 .1 .0, c .before .before .before .before .before .before .before .before .before .before .before .before .before .before .before .search .inv .wide)) (search needs) (search told) (search told) _ _ (c .before .after-front .ensures) (search needs) (search needs))  -- search-again
+    (λ c. omega arith)  -- same-length
     (λ c. search (entries-end, told))  -- returns
+    (λ c. omega (arith, c .before .before .before .before .before .before .before .before .before .before .before .before .before .before .before .before .before .before .before .list-body .kept .1 .1 .1 .0, c .before .before .before .before .before .before .before .before .before .before .before .before .before .before .before .before .before .before .before .before .before .before .before .search .inv .wide))  -- same-length-2
     (λ c. search (raise-barred, told)))  -- returns-2

@@ -27,5 +27,7 @@ reserve-token-spec =
     (λ c κs. search needs)  -- starts-at-zero-requires
     (λ c. search needs)  -- slice-aggregate-result
     (λ c. search starts-higher)  -- returns
-    (λ c κs. search needs)  -- raises-token-requires
-    (λ c. search by-raises))  -- returns-2
+    (λ c κs. search needs)  -- short-file-token-requires
+    (λ c. search by-raises)  -- returns-2
+    (λ c κs. search needs)  -- long-file-token-requires
+    (λ c. search by-raises))  -- returns-3
