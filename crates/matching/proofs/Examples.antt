@@ -14,7 +14,8 @@ use Rattle.equality.specs.Equality.{strip, sameText, exprEq, partsEq}
 use Rattle.conditions.specs.Conditions.{splitAnd, splitEach, splitFirst, negated, negatedEach, negatedFirst, conditionsOf, requiredConditions, opposite, operator}
 use Rattle.bounds.specs.Bounds.{goesLeft, wrappingInside, boundedByBacking, leftBounded}
 use Rattle.tokens.specs.Tokens.{single, differ, besideInAsset, tokenNamed, tokensNamed, admittedInflowToken, isInflow, isCredit, isFunding, funds, ledgerFundingTokens, fundingToken}
-use Rattle.reserves.specs.Reserves.{containsInflow, guardedField, guardedAmount, guardedBy, assigns, value, containsWrapping, setsFrom, loweredBy, lowers, isZero, defaults, genesisValues, startsAtZero, raise, raises, credited, guardToken, guardTokens, only, debitToken, raiseToken, raiseTokens, reserveToken, reserveCovers, reserveBoundingPayout}
+use Rattle.reserve_tokens.specs.ReserveTokens.{assigns, value, setsFrom, isZero, defaults, genesisValues, startsAtZero, raise, raises, credited, guardToken, guardTokens, only, debitToken, raiseToken, raiseTokens, reserveToken}
+use Rattle.reserves.specs.Reserves.{containsInflow, guardedField, guardedAmount, guardedBy, containsWrapping, loweredBy, lowers, reserveCovers, reserveBoundingPayout}
 use Rattle.matching.specs.Matching.{Cover, Reason, Marks, debitBackings, parameterBackings, backings, payoutToken, payoutAmount, equals, bounds, takeBacking, takeReserve, byReserve, byBounding, notTaken, byEqual, answer, start}
 use Rattle.matching.specs.Matching.Cover.{equalDebit, equalParameter, boundingDebit, boundingParameter, reserve}
 use Rattle.matching.specs.Matching.Reason.{splitWithoutAmount, conflictAtEqual, amountTaken, conflictAtBounding, noReserve, reserveUsed}

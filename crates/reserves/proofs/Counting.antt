@@ -8,7 +8,7 @@ use native.Mathlib.Omega.{arith}
 use native.Mathlib.Nat.{mod-eq-of-lt}
 use borrow.Author.Tests.{not-true, not-false, eq-eqb, ne-eqb, leb-true}
 use lib.Dec.{eqb}
-use lib.ListN.{length, take, drop, length-append, length-drop, length-map}
+use lib.ListN.{length, drop, length-append, length-drop, length-map}
 use Rattle.fields.specs.Lists.{any, sameBytes}
 use Rattle.fields.specs.Tag.{State, Guard, isWrapper}
 use Rattle.fields.specs.Table.{Listed, Room}
@@ -23,7 +23,8 @@ use Rattle.questions.specs.Model.{nameOf, stateNames, body}
 use Rattle.walking.specs.Walking.{peel, peelFirst}
 use Rattle.walking.specs.Table.{placedAt}
 use Rattle.equality.proofs.Equality.{nothing-right}
-use Rattle.reserves.specs.Reserves.{guardedField, guardedAmount, assigns, containsWrapping, loweredBy, lowers}
+use Rattle.reserve_tokens.specs.ReserveTokens.{assigns}
+use Rattle.reserves.specs.Reserves.{guardedField, guardedAmount, containsWrapping, loweredBy, lowers}
 use Rattle.reserves.specs.Candidates.{counts, stateIndex, numbersAt, candidateNumbers, Candidates}
 use Rattle.reserves.proofs.General.{and-false, any-none, position-inside, size-least, row-few}
 

@@ -20,7 +20,8 @@ use Rattle.walking.specs.Walking.{guards}
 use Rattle.walking.specs.Table.{placedAt}
 use Rattle.equality.specs.Equality.{exprEq}
 use Rattle.equality.proofs.Equality.{expr-symmetric, expr-transitive}
-use Rattle.reserves.specs.Reserves.{containsInflow, guardedField, guardedAmount, guardedBy, loweredBy, lowers, reserveToken, reserveCovers, reserveBoundingPayout}
+use Rattle.reserve_tokens.specs.ReserveTokens.{reserveToken}
+use Rattle.reserves.specs.Reserves.{containsInflow, guardedField, guardedAmount, guardedBy, loweredBy, lowers, reserveCovers, reserveBoundingPayout}
 use Rattle.reserves.specs.Candidates.{counts, stateIndex, candidateNumbers}
 use Rattle.reserves.specs.Holding.{askedToken, stateName, isToken, holdsToken}
 use Rattle.reserves.specs.Covers.{reserveOf, amountAt, equalFrom}

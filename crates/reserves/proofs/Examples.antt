@@ -1,178 +1,161 @@
--- The definitions computed on examples: what zero is, what raises a state field and by what, and which token it holds then.
+-- The definitions computed on examples: which guard and which assignment let a state field cover a payout.
 use Prim.Native.Nat.{ℕ}
 use Prim.Native.String.{String}
 use mathlib.Core.Path.{_≡_, refl}
-use mathlib.Core.Bool.{Bool, true, false}
 use mathlib.Core.List.{List, [], _∷_, _++_, map, flatMap}
-use Rattle.fields.specs.Lists.{any, all, filter, find, sameBytes, bytes, known}
-use Rattle.fields.specs.Tag.{State, Genesis, Entry, Parameter, Limits, Guard, Set, AddTo, SubtractFrom, ExpressionStatement, String as Text, Caller, InAsset, Member, Call, Checked, Wrapping, And, Eq, Ne, Add, Sub, Mul, composite, isAssign, isExpression, isStatement, isWrapper}
-use Rattle.fields.specs.Field.{fields, fieldsTo, front, nth, row, fieldsFrom, size, sizes, placed, placedFrom, encode}
-use Rattle.fields.proofs.Writing.{write, word, name, typeName, integer, identifier}
-use Rattle.questions.specs.Model.{genesis, entries, params, body}
+use mathlib.Core.Option.{Option, none, some}
+use lib.ListN.{length}
+use Rattle.fields.specs.Lists.{any, all, filter, find, position, sameBytes, bytes, known}
+use Rattle.fields.specs.Tag.{State, Entry, Parameter, Guard, Set, AddTo, SubtractFrom, InAsset, Member, Checked, Wrapping, And, Eq, Lt, Gt, Le, Ge, Sub, Mul, composite, isAssign, isExpression, isStatement, isWrapper}
+use Rattle.fields.specs.Field.{fields, fieldsTo, front, nth, row, fieldsFrom, size, sizes, placed, placedFrom}
+use Rattle.fields.proofs.Writing.{write, name, typeName, integer, identifier}
+use Rattle.questions.specs.Model.{stateNames, genesis, entries, params, body}
 use Rattle.walking.specs.Walking.{peel, peelFirst, walk, walkParts, stmtExprs, bodyExprs, exprs, guards, ident, method, receiver, isDebit, assetAmountBacker, isAssetParameter, assetParams, debits}
+use Rattle.walking.specs.Table.{placedAt}
 use Rattle.equality.specs.Equality.{exprEq, partsEq, strip, sameText}
-use Rattle.conditions.specs.Conditions.{splitAnd, splitEach, splitFirst, negated, negatedEach, negatedFirst, conditionsOf, requiredConditions, opposite, operator}
-use Rattle.tokens.specs.Tokens.{single, besideInAsset, tokenNamed, tokensNamed, isInflow, isCredit, isFunding, funds, ledgerFundingTokens, fundingToken}
-use Rattle.reserves.specs.Reserves.{assigns, value, setsFrom, isZero, defaults, genesisValues, startsAtZero, raise, raises, credited, guardToken, guardTokens, only, debitToken, raiseToken, raiseTokens, reserveToken}
+use Rattle.tokens.specs.Tokens.{single, besideInAsset, isInflow, isCredit}
+use Rattle.reserve_tokens.specs.ReserveTokens.{assigns, value, setsFrom, isZero, defaults, genesisValues, startsAtZero, raise, raises, credited, guardToken, guardTokens, only, debitToken, raiseToken, raiseTokens, reserveToken}
+use Rattle.reserves.specs.Reserves.{containsInflow, guardedField, guardedAmount, guardedBy, containsWrapping, loweredBy, lowers, reserveCovers, reserveBoundingPayout}
+use Rattle.reserves.specs.Candidates.{counts, stateIndex, numbersAt, candidateNumbers}
 
 abbrev r : List ℕ
 r = identifier "r"
 
-abbrev v : List ℕ
-v = identifier "v"
+abbrev s : List ℕ
+s = identifier "s"
+
+abbrev n : List ℕ
+n = identifier "n"
 
 abbrev checked : List ℕ → List ℕ
 checked e = write Checked e
 
--- Zero
-
-zeros : List (List ℕ) → List Bool
-unfolding all fields fieldsTo nth composite isWrapper peel peelFirst isZero
-zeros es = map (λ e. isZero (front e)) es
-
--- 0, underscores around it, the empty text, two digits, no digit, and a zero inside wrappers
-zero : zeros (integer "0" ∷ integer "_0_" ∷ integer "" ∷ integer "00" ∷ integer "_" ∷ checked (write Wrapping (integer "0_0")) ∷ [])
-    ≡ true ∷ true ∷ true ∷ true ∷ true ∷ true ∷ []
-unfolding zeros
-zero = refl
-
--- another digit, a digit behind zeros, a string, a name, a hollow wrapper
-no-zero : zeros (integer "1" ∷ integer "00_1" ∷ word Text "0" ∷ r ∷ checked [] ∷ []) ≡ false ∷ false ∷ false ∷ false ∷ false ∷ []
-unfolding zeros
-no-zero = refl
-
--- The start
-
-abbrev state : String → List ℕ → List ℕ
-state s default = write State (name s ++ (typeName "Q_Integer" ++ default))
-
-abbrev first : ℕ → String → List ℕ → List ℕ
-first how target e = write Genesis (write how (identifier target ++ e))
-
-starts : List (List ℕ) → List Bool
-unfolding all filter sameBytes fields fieldsTo nth composite row fieldsFrom isWrapper isAssign genesis ident peel peelFirst assigns isZero defaults genesisValues startsAtZero
-starts models = map (λ m. startsAtZero (fields m) (bytes "r")) models
-
--- no default, a zero one, another field's, zero at genesis, another field's value there
-at-zero : starts
-    (state "r" [] ∷ state "r" (integer "0") ∷ (state "r" [] ++ state "s" (integer "1")) ∷ (state "r" [] ++ first Set "r" (integer "0"))
-    ∷ (state "r" (integer "0") ++ first Set "s" (integer "1")) ∷ [])
-    ≡ true ∷ true ∷ true ∷ true ∷ true ∷ []
-unfolding starts
-at-zero = refl
-
--- a default of 1, and 1 at genesis: set, added, subtracted, or after a zero
-at-one : starts
-    (state "r" (integer "1") ∷ first Set "r" (integer "1") ∷ first AddTo "r" (integer "1") ∷ first SubtractFrom "r" (integer "1")
-    ∷ (first Set "r" (integer "0") ++ first AddTo "r" (integer "1")) ∷ [])
-    ≡ false ∷ false ∷ false ∷ false ∷ false ∷ []
-unfolding starts
-at-one = refl
-
--- Raises
-
-abbrev sets : List ℕ → List ℕ
-sets e = write Set (r ++ e)
-
-raisesBy : List (List ℕ) → List (List (List ℕ))
-unfolding sameBytes fields fieldsTo nth composite sizes isWrapper ident peel peelFirst value setsFrom raise encode
-raisesBy ss = map (λ s. map encode (raise (bytes "r") (front s))) ss
-
--- by v: `r += v`, r = r + v, r = checked(r) + v, r = checked(r + checked(v)), r = v
-by-v : raisesBy
-    (write AddTo (r ++ v) ∷ sets (write Add (r ++ v)) ∷ sets (write Add (checked r ++ v)) ∷ sets (checked (write Add (r ++ checked v))) ∷ sets (checked v) ∷ [])
-    ≡ (v ∷ []) ∷ (v ∷ []) ∷ (v ∷ []) ∷ (v ∷ []) ∷ (v ∷ []) ∷ []
-unfolding raisesBy
-by-v = refl
-
--- by the whole value: r = v + r, r = v - r, r = r * v
-by-value : raisesBy (sets (write Add (v ++ r)) ∷ sets (write Sub (v ++ r)) ∷ sets (write Mul (r ++ v)) ∷ [])
-    ≡ (write Add (v ++ r) ∷ []) ∷ (write Sub (v ++ r) ∷ []) ∷ (write Mul (r ++ v) ∷ []) ∷ []
-unfolding raisesBy
-by-value = refl
-
--- not at all: `r -= v`, r = r - v, r = checked(checked(r) - v)
-by-nothing : raisesBy (write SubtractFrom (r ++ v) ∷ sets (write Sub (r ++ v)) ∷ sets (checked (write Sub (checked r ++ v))) ∷ []) ≡ [] ∷ [] ∷ [] ∷ []
-unfolding raisesBy
-by-nothing = refl
-
--- The token
-
--- in-asset == t
-abbrev holds : String → List ℕ
-holds t = write Eq (write InAsset [] ++ identifier t)
-
-abbrev entry : List ℕ → List ℕ
-entry parts = write Entry (name "f" ++ parts)
-
--- an entry with an asset parameter a
-abbrev taking : List ℕ → List ℕ
-taking parts = entry (write Parameter (name "a" ++ typeName "Q_Asset") ++ parts)
+abbrev wrapping : List ℕ → List ℕ
+wrapping e = write Wrapping e
 
 abbrev guard : List ℕ → List ℕ
 guard e = write Guard e
 
--- a.amount, and r += it
-abbrev amount : List ℕ
-amount = write Member (identifier "a" ++ name "amount")
+abbrev asset : String → List ℕ
+asset p = write Parameter (name p ++ typeName "Q_Asset")
 
-abbrev raised : List ℕ → List ℕ
-raised e = write AddTo (r ++ e)
+abbrev amountOf : String → List ℕ
+amountOf p = write Member (identifier p ++ name "amount")
 
--- m.how(caller, e)
-abbrev calls : String → String → List ℕ → List ℕ
-calls m how e = write ExpressionStatement (write Call (write Member (identifier m ++ name how) ++ (write Caller [] ++ e)))
+-- a state field that starts at zero
+abbrev state : String → List ℕ
+state f = write State (name f ++ (typeName "Q_Integer" ++ integer "0"))
 
--- an entry that funds the map m with t
-abbrev funding : String → String → List ℕ
-funding m t = taking (write Limits (holds t) ++ calls m "credit" amount)
+-- r, raised by a.amount in T by an entry; s, which holds no token
+abbrev before : List ℕ
+before =
+    state "s" ++ (state "r"
+    ++ write Entry (name "f" ++ (asset "a" ++ (guard (write Eq (write InAsset [] ++ identifier "T")) ++ write AddTo (r ++ amountOf "a")))))
 
-held : List (List ℕ) → List (List ℕ)
-unfolding any all filter find sameBytes known fields fieldsTo nth composite size sizes placed placedFrom row fieldsFrom flatMap isAssign isExpression isStatement isWrapper genesis entries params body peel peelFirst walk walkParts stmtExprs bodyExprs exprs guards ident method receiver isDebit assetAmountBacker isAssetParameter assetParams debits exprEq partsEq strip sameText splitAnd splitEach splitFirst negated negatedEach negatedFirst conditionsOf requiredConditions opposite operator single besideInAsset tokenNamed tokensNamed isInflow isCredit isFunding funds ledgerFundingTokens fundingToken assigns value setsFrom isZero defaults genesisValues startsAtZero raise raises credited guardToken guardTokens only debitToken raiseToken raiseTokens reserveToken
-held models = map (λ m. reserveToken (fields m) (bytes "r")) models
+-- an entry with an asset parameter b
+abbrev taking : List ℕ → List ℕ
+taking parts = write Entry (name "g" ++ (asset "b" ++ parts))
 
--- a raise by a.amount: one guard, a wrapped guard with its sides swapped, another guard beside it, a lowering beside it, twice in
--- two entries, another amount credited
-by-amount : held
-    (taking (guard (holds "T") ++ raised amount) ∷ taking (guard (checked (write Eq (identifier "T" ++ checked (write InAsset [])))) ++ raised amount)
-    ∷ taking (guard (holds "T") ++ (guard v ++ raised amount)) ∷ taking (guard (holds "T") ++ (raised amount ++ write SubtractFrom (r ++ v)))
-    ∷ (taking (guard (holds "T") ++ raised amount) ++ taking (guard (holds "T") ++ raised amount)) ∷ taking (guard (holds "T") ++ (calls "m" "credit" v ++ raised amount)) ∷ [])
-    ≡ bytes "T" ∷ bytes "T" ∷ bytes "T" ∷ bytes "T" ∷ bytes "T" ∷ bytes "T" ∷ []
-unfolding held
-by-amount = refl
+-- b.amount * 2
+abbrev double : List ℕ
+double = write Mul (amountOf "b" ++ integer "2")
 
--- no guard, the guard twice, two tokens, a clause only, a part of a guard only, Ne; the amount credited, set or inserted too, peeled
-by-amount-none : held
-    (taking (raised amount) ∷ taking (guard (holds "T") ++ (guard (holds "T") ++ raised amount)) ∷ taking (guard (holds "T") ++ (guard (holds "U") ++ raised amount))
-    ∷ taking (write Limits (holds "T") ++ raised amount) ∷ taking (guard (write And (holds "T" ++ v)) ++ raised amount)
-    ∷ taking (guard (write Ne (write InAsset [] ++ identifier "T")) ++ raised amount) ∷ taking (guard (holds "T") ++ (calls "m" "credit" amount ++ raised amount))
-    ∷ taking (guard (holds "T") ++ (calls "m" "set" (checked amount) ++ raised amount)) ∷ taking (guard (holds "T") ++ (raised amount ++ calls "m" "insert" amount)) ∷ [])
-    ≡ [] ∷ [] ∷ [] ∷ [] ∷ [] ∷ [] ∷ [] ∷ [] ∷ [] ∷ []
-unfolding held
-by-amount-none = refl
+-- r >= double, and r -= double
+abbrev guarded : List ℕ
+guarded = guard (write Ge (r ++ double))
 
--- a raise by a debit of a map that T funds, the debit behind the raise and peeled, the first of two debits
-by-debit : held
-    ((funding "m" "T" ++ entry (calls "m" "debit" v ++ raised v)) ∷ (entry (raised v ++ calls "m" "debit" (checked v)) ++ funding "m" "T")
-    ∷ (funding "m" "T" ++ entry (calls "m" "debit" v ++ (calls "w" "debit" v ++ raised v))) ∷ [])
-    ≡ bytes "T" ∷ bytes "T" ∷ bytes "T" ∷ []
-unfolding held
-by-debit = refl
+abbrev lowered : List ℕ
+lowered = write SubtractFrom (r ++ double)
 
--- a map that nothing funds, or two tokens; the second of two debits; a debit of another amount, or of a.amount
-by-debit-none : held
-    (entry (calls "m" "debit" v ++ raised v) ∷ (funding "m" "T" ++ (funding "m" "U" ++ entry (calls "m" "debit" v ++ raised v)))
-    ∷ (funding "m" "T" ++ entry (calls "w" "debit" v ++ (calls "m" "debit" v ++ raised v))) ∷ (funding "m" "T" ++ entry (calls "m" "debit" r ++ raised v))
-    ∷ (funding "m" "T" ++ taking (calls "m" "debit" amount ++ raised amount)) ∷ [])
-    ≡ [] ∷ [] ∷ [] ∷ [] ∷ [] ∷ []
-unfolding held
-by-debit-none = refl
+covering : List ℕ → List ℕ → List (List ℕ) → List (Option (List ℕ))
+unfolding any all filter find sameBytes known fields fieldsTo nth composite size sizes placed placedFrom row fieldsFrom flatMap isAssign isExpression isStatement isWrapper stateNames genesis entries params body peel peelFirst walk walkParts stmtExprs bodyExprs exprs guards ident method receiver isDebit assetAmountBacker isAssetParameter assetParams debits exprEq partsEq strip sameText single besideInAsset isInflow isCredit containsInflow guardedField guardedAmount guardedBy assigns value containsWrapping setsFrom loweredBy lowers isZero defaults genesisValues startsAtZero raise raises credited guardToken guardTokens only debitToken raiseToken raiseTokens reserveToken reserveCovers reserveBoundingPayout
+covering amount token es = map (λ e. reserveBoundingPayout (fields (before ++ e)) (front e) (front amount) token) es
 
--- no raise at all, a start at 1, a raise with no token before and behind one with T, two tokens that differ in one entry and in two
-none-held : held
-    ([] ∷ (state "r" (integer "1") ++ taking (guard (holds "T") ++ raised amount)) ∷ taking (guard (holds "T") ++ (raised v ++ raised amount))
-    ∷ taking (guard (holds "T") ++ (raised amount ++ raised v)) ∷ (funding "m" "U" ++ taking (guard (holds "T") ++ (calls "m" "debit" v ++ (raised amount ++ raised v))))
-    ∷ (taking (guard (holds "T") ++ raised amount) ++ taking (guard (holds "U") ++ raised amount)) ∷ [])
-    ≡ [] ∷ [] ∷ [] ∷ [] ∷ [] ∷ [] ∷ []
-unfolding held
-none-held = refl
+-- of double, in T
+abbrev covered : List (List ℕ) → List (Option (List ℕ))
+covered bodies = covering double (bytes "T") (map taking bodies)
+
+abbrev yes : Option (List ℕ)
+yes = some (bytes "r")
+
+-- Guards
+
+-- r >= amount, r > amount, amount <= r, amount < r; the guard and its sides peeled; behind the assignment
+guards-that-bound : covered
+    ((guarded ++ lowered) ∷ (guard (write Gt (r ++ double)) ++ lowered) ∷ (guard (write Le (double ++ r)) ++ lowered) ∷ (guard (write Lt (double ++ r)) ++ lowered)
+    ∷ (guard (checked (wrapping (write Ge (r ++ double)))) ++ lowered) ∷ (guard (write Lt (wrapping double ++ checked r)) ++ lowered) ∷ (lowered ++ guarded) ∷ [])
+    ≡ yes ∷ yes ∷ yes ∷ yes ∷ yes ∷ yes ∷ yes ∷ []
+unfolding covering
+guards-that-bound = refl
+
+-- none at all, amount > r, amount >= r, r < amount, r == amount, inside And, another amount, a field that is no state field
+guards-that-do-not : covered
+    (lowered ∷ (guard (write Gt (double ++ r)) ++ lowered) ∷ (guard (write Ge (double ++ r)) ++ lowered) ∷ (guard (write Lt (r ++ double)) ++ lowered)
+    ∷ (guard (write Eq (r ++ double)) ++ lowered) ∷ (guard (write And (write Ge (r ++ double) ++ n)) ++ lowered) ∷ (guard (write Ge (r ++ amountOf "b")) ++ lowered)
+    ∷ (guard (write Ge (n ++ double)) ++ write SubtractFrom (n ++ double)) ∷ [])
+    ≡ none ∷ none ∷ none ∷ none ∷ none ∷ none ∷ none ∷ none ∷ []
+unfolding covering
+guards-that-do-not = refl
+
+-- Assignments
+
+-- r -= checked(amount), r = r - amount, r = checked(checked(r) - checked(amount))
+assignments-that-lower : covered
+    ((guarded ++ write SubtractFrom (r ++ checked double)) ∷ (guarded ++ write Set (r ++ write Sub (r ++ double)))
+    ∷ (guarded ++ write Set (r ++ checked (write Sub (checked r ++ checked double)))) ∷ [])
+    ≡ yes ∷ yes ∷ yes ∷ []
+unfolding covering
+assignments-that-lower = refl
+
+-- none at all, r += amount, r = amount - r, r = amount, s -= amount, r = s - amount, r -= another amount, Wrapping around, inside and
+-- beside the amount
+assignments-that-do-not : covered
+    (guarded ∷ (guarded ++ write AddTo (r ++ double)) ∷ (guarded ++ write Set (r ++ write Sub (double ++ r))) ∷ (guarded ++ write Set (r ++ double))
+    ∷ (guarded ++ write SubtractFrom (s ++ double)) ∷ (guarded ++ write Set (r ++ write Sub (s ++ double))) ∷ (guarded ++ write SubtractFrom (r ++ amountOf "b"))
+    ∷ (guarded ++ write SubtractFrom (r ++ wrapping double)) ∷ (guarded ++ write SubtractFrom (r ++ write Mul (amountOf "b" ++ wrapping (integer "2"))))
+    ∷ (guarded ++ write Set (r ++ write Sub (wrapping r ++ double))) ∷ [])
+    ≡ none ∷ none ∷ none ∷ none ∷ none ∷ none ∷ none ∷ none ∷ none ∷ none ∷ []
+unfolding covering
+assignments-that-do-not = refl
+
+-- Amounts and tokens
+
+-- b.amount itself is contained in itself
+whole-amount : covering (amountOf "b") (bytes "T") (taking (guard (write Ge (r ++ amountOf "b")) ++ write SubtractFrom (r ++ amountOf "b")) ∷ []) ≡ yes ∷ []
+unfolding covering
+whole-amount = refl
+
+-- n contains no amount of an asset parameter, nor does n.amount or a.amount, a being no parameter here
+no-amount : covering n (bytes "T") (taking (guard (write Ge (r ++ n)) ++ write SubtractFrom (r ++ n)) ∷ [])
+    ++ (covering (amountOf "n") (bytes "T") (taking (guard (write Ge (r ++ amountOf "n")) ++ write SubtractFrom (r ++ amountOf "n")) ∷ [])
+    ++ covering double (bytes "T") (write Entry (name "g" ++ (guarded ++ lowered)) ∷ []))
+    ≡ none ∷ none ∷ none ∷ []
+unfolding covering
+no-amount = refl
+
+-- another token than the one r holds, and one that is not known
+other-tokens : covering double (bytes "U") (taking (guarded ++ lowered) ∷ []) ++ covering double [] (taking (guarded ++ lowered) ∷ []) ≡ none ∷ none ∷ []
+unfolding covering
+other-tokens = refl
+
+-- Several guards
+
+-- s is guarded first: it holds no token, or nothing lowers it; a guard of no state field, and one of another amount, before it
+first-that-covers : covered
+    ((guard (write Ge (s ++ double)) ++ (guarded ++ (lowered ++ write SubtractFrom (s ++ double)))) ∷ (guard (write Ge (s ++ double)) ++ (guarded ++ lowered))
+    ∷ (guard (write Ge (n ++ double)) ++ (guard (write Ge (r ++ n)) ++ (guarded ++ lowered))) ∷ [])
+    ≡ yes ∷ yes ∷ yes ∷ []
+unfolding covering
+first-that-covers = refl
+
+-- The table of candidates
+
+-- of the entry behind `before`, which takes 106 bytes; 24 stand before the entry's first guard, and a guard takes 33
+numbers : List (List ℕ) → List (List ℕ)
+unfolding any filter sameBytes position fields fieldsTo nth composite size sizes placed row fieldsFrom flatMap isAssign isExpression isStatement isWrapper stateNames body peel peelFirst walk walkParts ident exprEq partsEq strip sameText guardedField guardedAmount assigns value containsWrapping setsFrom loweredBy lowers counts stateIndex numbersAt candidateNumbers
+numbers bodies = map (λ c. candidateNumbers (fields (before ++ taking c)) (placedAt (before ++ taking c) (length before))) bodies
+
+-- one guard that counts, its place and the number of r; none; two guards, of which the first does not count
+listed : numbers ((guarded ++ lowered) ∷ guarded ∷ (guard (write Ge (s ++ double)) ++ (guarded ++ lowered)) ∷ []) ≡ (130 ∷ 1 ∷ []) ∷ [] ∷ (163 ∷ 1 ∷ []) ∷ []
+unfolding numbers
+listed = refl

@@ -1,11 +1,3 @@
-pub mod Passing
-pub mod Zeros
-pub mod Guarding
-pub mod Called
-pub mod Held
-pub mod Raised
-pub mod Reserving
-pub mod Examples
 pub mod General
 pub mod Members
 pub mod Pairs
@@ -13,4 +5,4 @@ pub mod Remembering
 pub mod Counting
 pub mod Covered
 pub mod Searching
-pub mod CoveringExamples
+pub mod Examples

@@ -1,13 +1,13 @@
 -- Only a member can be `p.amount`, so a table of the members in an amount has all that matter. An asset parameter without a
 -- name is the exception: what is no `p.amount` names it.
-use Prim.Native.Nat.{ℕ, _+_, _*_, _≤_, _<_}
+use Prim.Native.Nat.{ℕ, _+_, _*_, _≤_}
 use mathlib.Core.Path.{_≡_, refl, sym, ap, _∙_}
 use mathlib.Core.Bool.{Bool, true, false, cond, _&&_}
 use mathlib.Core.List.{List, [], _∷_, _++_}
 use native.Mathlib.Omega.{arith}
 use borrow.Author.Tests.{leb-true, eqb-true}
 use lib.Dec.{eqb}
-use lib.ListN.{length, getD, take, drop}
+use lib.ListN.{length}
 use Rattle.fields.specs.Lists.{any, sameBytes, bytes}
 use Rattle.fields.specs.Tag.{Member, Identifier, isExpression}
 use Rattle.fields.specs.Table.{Listed}
@@ -18,12 +18,12 @@ use Rattle.fields.proofs.Lists.{any-first, map-append}
 use Rattle.fields.proofs.Reading.{front-none}
 use Rattle.fields.proofs.Places.{front-size}
 use Rattle.fields.proofs.Tables.{listed-front}
-use Rattle.fields.proofs.Seeking.{Seeking, seeking-all, seeking-found, seeking-on}
+use Rattle.fields.proofs.Seeking.{Seeking}
 use Rattle.walking.specs.Walking.{walk, walkParts, withoutPlaces, ident, assetAmountBacker, assetParams}
 use Rattle.walking.specs.Table.{placesOf}
 use Rattle.walking.proofs.Callers.{expression-few, expression-read}
 use Rattle.tokens.specs.Tokens.{isInflow}
-use Rattle.tokens.proofs.Funded.{any-mapped}
+use Rattle.reserve_tokens.proofs.AtPlaces.{fieldAt, fields-any}
 use Rattle.reserves.specs.Reserves.{containsInflow}
 use Rattle.reserves.specs.Members.{MembersOf, membersIn, memberInflow}
 use Rattle.reserves.proofs.General.{or-left, or-either, any-left}
@@ -122,26 +122,7 @@ unfolding memberInflow membersIn containsInflow
 by-members entry amount b e f r g =
     g ∙ any-first (isInflow entry) isMember (member-only entry (sym e ∙ f)) (withoutPlaces (walk 0 amount))
 
--- whether the member at a place of s is `p.amount`
-unfoldable pub inflowAt : (entry s : List ℕ) → ℕ → Bool
-inflowAt entry s n = isInflow (front entry) (front (drop n s))
-
-pub members-all : (entry s members : List ℕ) (count : ℕ) → MembersOf s members count →
-    Seeking (inflowAt entry s) members count 0 (memberInflow (front entry) (front s))
-unfolding memberInflow inflowAt
-members-all entry s members count t =
-    seeking-all (inflowAt entry s) members count _ (t .room)
-    (rw (any-mapped (isInflow (front entry)) (λ n. front (drop n s)) (take count members), t .read))
-
--- one member after the other
-module _ (entry s members : List ℕ) (count i : ℕ) (r : Bool) (v : Seeking (inflowAt entry s) members count i r) (h : i < count)
-    (n : ℕ) (k : n ≡ getD members i 0) (x : List ℕ) (e : x ≡ drop n s) (b : Bool) (f : b ≡ isInflow (front entry) (front x)) where
-  here : inflowAt entry s (getD members i 0) ≡ b
-  unfolding inflowAt
-  here = rw (f, e, k)
-
-  pub members-found : b ≡ true → true ≡ r
-  members-found g = seeking-found (inflowAt entry s) members count i r v h (here ∙ g)
-
-  pub members-on : b ≡ false → Seeking (inflowAt entry s) members count (i + 1) r
-  members-on g = seeking-on (inflowAt entry s) members count i r v h (here ∙ g)
+pub members-any : (entry : Field) (s members : List ℕ) (count : ℕ) → MembersOf s members count →
+    Seeking (fieldAt (isInflow entry) s) members count 0 (memberInflow entry (front s))
+unfolding memberInflow
+members-any entry s members count t = fields-any (isInflow entry) s members count (t .room) _ (t .read) _ refl

@@ -6,7 +6,7 @@ use mathlib.Core.List.{List, [], _∷_}
 use native.Mathlib.Omega.{arith}
 use lib.ListN.{getD, set, replicate}
 use Rattle.fields.specs.Field.{fields}
-use Rattle.reserves.specs.Reserves.{reserveToken}
+use Rattle.reserve_tokens.specs.ReserveTokens.{reserveToken}
 use Rattle.reserves.specs.Holding.{askedToken, stateName, isToken, holdsToken, said, Numbered, Right}
 
 -- what holds of a table's number holds after another was written, if it holds of that one too

@@ -8,7 +8,7 @@ use Rattle.fields.specs.Lists.{sameBytes, known}
 use Rattle.fields.specs.Field.{fields, front, part}
 use Rattle.questions.specs.Model.{stateNames}
 use Rattle.walking.specs.Walking.{peel, ident}
-use Rattle.reserves.specs.Reserves.{reserveToken}
+use Rattle.reserve_tokens.specs.ReserveTokens.{reserveToken}
 
 -- the k-th token that is asked for: the first argument, peeled, if an identifier, of the call at the k-th place of the table
 unfoldable pub askedToken : (file asked : List ℕ) → ℕ → List ℕ

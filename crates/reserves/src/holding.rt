@@ -1,7 +1,6 @@
 // SPDX-License-Identifier: Apache-2.0 OR MIT
 // Whether a state field holds a token that is asked for. A field's token is worked out once and then remembered, in a table
 // that the caller lends, as a number: 0 not worked out, 1 none of the tokens asked for, j + 2 the j-th of them.
-use super::reserve::reserve_token;
 use fields::bytes::same_bytes;
 use fields::bytes::skip;
 use fields::front::nth_from;
@@ -9,6 +8,7 @@ use fields::front::part_of;
 use fields::table::number_at;
 use fields::tag::STATE;
 use questions::state::name_of;
+use reserve_tokens::reserve::reserve_token;
 use walking::peel::peel;
 use walking::shape::ident;
 ghost use mathlib.Core.Path.{_≡_};

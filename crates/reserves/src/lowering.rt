@@ -1,8 +1,5 @@
 // SPDX-License-Identifier: Apache-2.0 OR MIT
 // The assignments that lower a state field by an amount.
-use super::assignment::assigns;
-use super::assignment::sets_from;
-use super::assignment::value_of;
 use equality::expr_eq;
 use fields::front::after_front;
 use fields::front::first_from;
@@ -15,6 +12,9 @@ use fields::tag::GUARD;
 use fields::tag::SUB;
 use fields::tag::SUBTRACT_FROM;
 use fields::tag::WRAPPING;
+use reserve_tokens::assignment::assigns;
+use reserve_tokens::assignment::sets_from;
+use reserve_tokens::assignment::value_of;
 use walking::peel::peel;
 use walking::walk::list_expression;
 ghost use mathlib.Core.Path.{_≡_};

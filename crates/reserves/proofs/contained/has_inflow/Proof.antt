@@ -4,8 +4,10 @@ use native.Mathlib.Omega.{arith}
 use borrow.Author.Needs.{needs}
 use Rattle.fields.specs.Field.{front}
 use Rattle.fields.proofs.Seeking.{Seeking, seeking-none}
+use Rattle.tokens.specs.Tokens.{isInflow}
+use Rattle.reserve_tokens.proofs.AtPlaces.{fieldAt, field-found, field-on}
 use Rattle.reserves.specs.Members.{memberInflow}
-use Rattle.reserves.proofs.Members.{inflowAt, members-all, members-found, members-on}
+use Rattle.reserves.proofs.Members.{members-any}
 use Rattle.reserves.proofs.contained.has_inflow.Statement.{statement}
 use Rattle.reserves.proofs.contained.has_inflow.Tie as tie
 
@@ -13,14 +15,14 @@ pub has-inflow-spec : {M : Type 1} → statement M
 has-inflow-spec =
     tie.close
     (tie.spec
-    (λ entry amount members count i₀ i. Seeking (inflowAt entry amount) members count i (memberInflow (front entry) (front amount)))  -- Inv-loop
+    (λ entry amount members count i₀ i. Seeking (fieldAt (isInflow (front entry)) amount) members count i (memberInflow (front entry) (front amount)))  -- Inv-loop
     (λ entry amount members count i₀ i. count - i)  -- μ-loop
-    (λ c. search members-all)  -- loop-holds
+    (λ c. search members-any)  -- loop-holds
     (λ c κs. search needs)  -- number-at-requires
     (λ c κs. search needs)  -- skip-requires
     (λ c κs. search needs)  -- is-inflow-requires
-    (λ c. search members-found)  -- returns
+    (λ c. search field-found)  -- returns
     (λ c. omega arith)  -- add-i
     (λ c. omega arith)  -- loop-less
-    (λ c. search members-on)  -- loop-again
+    (λ c. search field-on)  -- loop-again
     (λ c. search seeking-none))  -- returns-2

@@ -8,7 +8,8 @@ use borrow.Author.Tests.{not-true, not-false}
 use Rattle.fields.specs.Field.{Field, front, part}
 use Rattle.fields.proofs.Bools.{and-true}
 use Rattle.equality.specs.Equality.{exprEq}
-use Rattle.reserves.specs.Reserves.{assigns, containsWrapping, loweredBy, lowers}
+use Rattle.reserve_tokens.specs.ReserveTokens.{assigns}
+use Rattle.reserves.specs.Reserves.{containsWrapping, loweredBy, lowers}
 use Rattle.reserves.proofs.General.{and-false}
 use Rattle.reserves.proofs.lowering.lowers.Statement.{statement}
 use Rattle.reserves.proofs.lowering.lowers.Tie as tie

@@ -1,0 +1,37 @@
+-- Any other raise has no token here, nor has one that a call credits too; else the guard's token stands.
+use Prim.Native.Nat.{ℕ}
+use mathlib.Core.Path.{_≡_}
+use mathlib.Core.Bool.{Bool, true, false, not}
+use mathlib.Core.List.{List, []}
+use borrow.Author.Needs.{needs}
+use borrow.Author.Tests.{not-true, not-false}
+use Rattle.fields.specs.Field.{Field}
+use Rattle.reserve_tokens.specs.ReserveTokens.{credited}
+use Rattle.reserve_tokens.specs.Raising.{inflowToken}
+use Rattle.reserve_tokens.proofs.reserve.inflow_token.Statement.{statement}
+use Rattle.reserve_tokens.proofs.reserve.inflow_token.Tie as tie
+
+module _ (inflow : Bool) (guarded : List ℕ) (entry v : Field) where
+  other-raise : not inflow ≡ true → [] ≡ inflowToken inflow guarded entry v
+  unfolding inflowToken
+  other-raise h = rw (not-true inflow h)
+
+  module _ (h : not inflow ≡ false) (b : Bool) (f : b ≡ credited entry v) where
+    credited-too : b ≡ true → [] ≡ inflowToken inflow guarded entry v
+    unfolding inflowToken
+    credited-too i = rw (not-false inflow h, ← f, i)
+
+    by-guard : b ≡ false → guarded ≡ inflowToken inflow guarded entry v
+    unfolding inflowToken
+    by-guard i = rw (not-false inflow h, ← f, i)
+
+pub inflow-token-spec : {M : Type 1} → statement M
+inflow-token-spec =
+    tie.close
+    (tie.spec
+    (λ c. search needs)  -- slice-aggregate-result
+    (λ c. search other-raise)  -- returns
+    (λ c κs. search needs)  -- is-credited-requires
+    (λ c. search needs)  -- slice-aggregate-result-2
+    (λ c. search credited-too)  -- returns-2
+    (λ c. search by-guard))  -- returns-3

@@ -1,0 +1,2 @@
+pub mod ReserveTokens
+pub mod Raising
