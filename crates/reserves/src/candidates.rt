@@ -41,15 +41,16 @@ pub fn state_index(file: &[u8], name: &[u8]) -> usize
     n
 }
 
-// Whether the guard's expression at the front of s counts.
+// Whether the guard's expression at the front of s counts. Most guards bound nothing that is lowered, and the statements of an
+// entry are fewer than the fields of a file, so they are asked first.
 fn guard_counts(file: &[u8], entry: &[u8], s: &[u8]) -> bool
     ensures { λ r. ⌜ r ≡ counts (fields (now (file .entry))) (front (now (entry .entry))) (front (now (s .entry))) ⌝ }
 {
     let name = guarded_field(s);
-    if !has_state(file, name) {
+    if !is_lowered(entry, guarded_amount(s), name) {
         return false;
     }
-    is_lowered(entry, guarded_amount(s), name)
+    has_state(file, name)
 }
 
 // Writes the two numbers of the part of the entry at the front of s, which stands at a place of the file, where it is a guard

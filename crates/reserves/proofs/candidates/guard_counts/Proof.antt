@@ -1,7 +1,7 @@
--- Both tests, the first of which decides where it fails.
+-- Both tests, of which the one that fails decides.
 use Prim.Native.Nat.{ℕ}
-use mathlib.Core.Path.{_≡_, _∙_}
-use mathlib.Core.Bool.{Bool, true, false, not}
+use mathlib.Core.Path.{_≡_, refl, _∙_}
+use mathlib.Core.Bool.{Bool, true, false, not, _&&_}
 use mathlib.Core.List.{List}
 use borrow.Author.Needs.{needs}
 use borrow.Author.Tests.{not-true, not-false}
@@ -13,22 +13,30 @@ use Rattle.reserves.specs.Candidates.{counts}
 use Rattle.reserves.proofs.candidates.guard_counts.Statement.{statement}
 use Rattle.reserves.proofs.candidates.guard_counts.Tie as tie
 
-module _ (model : Fields) (entry g : Field) (n : List ℕ) (e : n ≡ guardedField g) (b : Bool) (f : b ≡ any (sameBytes n) (stateNames model)) where
-  no-state : not b ≡ true → false ≡ counts model entry g
-  unfolding counts
-  no-state h = rw (← e, ← f, not-true b h)
+and-false : (a : Bool) → false ≡ a && false
+and-false true = refl
+and-false false = refl
 
-  by-lowering : not b ≡ false → (x : List ℕ) → front x ≡ guardedAmount g → (r : Bool) → r ≡ any (lowers (front x) n) (body entry) → r ≡ counts model entry g
+and-true : (a : Bool) → a ≡ a && true
+and-true true = refl
+and-true false = refl
+
+module _ (model : Fields) (entry g : Field) (n : List ℕ) (e : n ≡ guardedField g) (x : List ℕ) (i : front x ≡ guardedAmount g) (b : Bool) (f : b ≡ any (lowers (front x) n) (body entry)) where
+  not-lowered : not b ≡ true → false ≡ counts model entry g
   unfolding counts
-  by-lowering h x i r k = k ∙ rw (← e, ← f, not-false b h, i)
+  not-lowered h = rw (← e, ← i, ← f, not-true b h) (and-false (any (sameBytes n) (stateNames model)))
+
+  by-state : not b ≡ false → (r : Bool) → r ≡ any (sameBytes n) (stateNames model) → r ≡ counts model entry g
+  unfolding counts
+  by-state h r k = k ∙ rw (← e, ← i, ← f, not-false b h) (and-true (any (sameBytes n) (stateNames model)))
 
 pub guard-counts-spec : {M : Type 1} → statement M
 guard-counts-spec =
     tie.close
     (tie.spec
     (λ c κs. search needs)  -- guarded-field-requires
-    (λ c κs. search needs)  -- has-state-requires
-    (λ c. search no-state)  -- returns
     (λ c κs. search needs)  -- guarded-amount-requires
     (λ c κs. search needs)  -- is-lowered-requires
-    (λ c. search by-lowering))  -- returns-2
+    (λ c. search not-lowered)  -- returns
+    (λ c κs. search needs)  -- has-state-requires
+    (λ c. search by-state))  -- returns-2
