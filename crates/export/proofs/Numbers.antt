@@ -8,8 +8,8 @@ use Rattle.matching.specs.Matching.{Reason}
 use Rattle.matching.specs.Matching.Reason.{splitWithoutAmount, conflictAtEqual, amountTaken, conflictAtBounding, noReserve, reserveUsed}
 use Rattle.matching.specs.Coded.{codedReason, reasonOf}
 use Rattle.matching.specs.declared.answer.Reason.{Reason as CodedReason}
-use Rattle.verdict.specs.Verdict.{Verdict, reason}
-use Rattle.verdict.specs.Verdict.Verdict.{refused, rejected, accepted}
+use Rattle.claim.specs.Verdict.{Verdict, reason}
+use Rattle.claim.specs.Verdict.Verdict.{refused, rejected, accepted}
 use Rattle.verdict.specs.Coded.{coded}
 use Rattle.verdict.specs.declared.entry.Verdict.{Verdict as CodedVerdict}
 use Rattle.verdict.specs.declared.entry.Verdict.the-variants.{Refused, Rejected, Accepted}

@@ -1,8 +1,8 @@
 -- A verdict as numbers, for a caller in C.
 use Prim.Native.Nat.{ℕ}
 use lib.ListN.{length}
-use Rattle.verdict.specs.Verdict.{Verdict, reason}
-use Rattle.verdict.specs.Verdict.Verdict.{refused, rejected, accepted}
+use Rattle.claim.specs.Verdict.{Verdict, reason}
+use Rattle.claim.specs.Verdict.Verdict.{refused, rejected, accepted}
 
 -- what it is: 0 accepted, 1 rejected, 2 refused
 unfoldable pub outcome : Verdict → ℕ

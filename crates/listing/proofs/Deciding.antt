@@ -17,12 +17,12 @@ use Rattle.matching.specs.Tables.{entryOf}
 use Rattle.matching.specs.Matching.{Cover, Reason}
 use Rattle.matching.specs.Matching.Cover.{reserve}
 use Rattle.matching.specs.declared.answer.Reason.{Reason as CodedReason}
-use Rattle.verdict.specs.Verdict.{Verdict, refused, rejected, accepted, entryAt, entryVerdict, kind, index, sheet, written, spare}
-use Rattle.verdict.specs.Claim.{kindAt, indexAt}
+use Rattle.claim.specs.Verdict.{Verdict, refused, rejected, accepted, entryAt, entryVerdict, kind, index, sheet, written, spare}
+use Rattle.claim.specs.Claim.{kindAt, indexAt}
 use Rattle.verdict.specs.Coded.{coded, placedVerdict}
 use Rattle.verdict.specs.declared.entry.Verdict.{Verdict as CodedVerdict}
 use Rattle.verdict.specs.declared.entry.Verdict.the-variants.{Refused, Rejected, Accepted}
-use Rattle.verdict.proofs.Sheets.{kind-at, index-at}
+use Rattle.claim.proofs.Sheets.{kind-at, index-at}
 use Rattle.verdict.proofs.Placing.{told-placed, left-placed}
 use Rattle.listing.specs.Output.{Written}
 use Rattle.listing.specs.Listing.{refusalLine, acceptedLine, rejectedLine, coverLine, entryLines, below}

@@ -15,10 +15,10 @@ use Rattle.walking.specs.Walking.{payouts}
 use Rattle.matching.specs.Matching.{Cover, Marks, Answer, answer, start}
 use Rattle.matching.specs.Matching.Answer.{cover, rejection}
 use Rattle.matching.specs.Matching.Cover.{equalDebit, equalParameter, boundingDebit, boundingParameter, reserve}
-use Rattle.verdict.specs.Verdict.{Verdict, refused, rejected, accepted, withCover, matchFrom, matching, entryAt, askEntry, entryVerdict, backingCount, spare, kind, index, sheet}
-use Rattle.verdict.proofs.Passing.{Passed, a-pass}
-use Rattle.verdict.proofs.Backs.{passed-backs}
-use Rattle.verdict.proofs.Fitting.{index-fits, short-file}
+use Rattle.claim.specs.Verdict.{Verdict, refused, rejected, accepted, withCover, matchFrom, matching, entryAt, askEntry, entryVerdict, backingCount, spare, kind, index, sheet}
+use Rattle.claim.proofs.Passing.{Passed, a-pass}
+use Rattle.claim.proofs.Backs.{passed-backs}
+use Rattle.claim.proofs.Fitting.{index-fits, short-file}
 use Rattle.listing.specs.Output.{decimal}
 use Rattle.listing.specs.Listing.{line, refusalLine, acceptedLine, rejectedLine, coverLine, entryLines, below, listing}
 use Rattle.listing.specs.Coded.{coverLineAt}

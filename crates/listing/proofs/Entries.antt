@@ -17,7 +17,7 @@ use Rattle.questions.proofs.Accessors.{shown-nth}
 use Rattle.questions.specs.declared.check.Answer.{Answer}
 use Rattle.questions.specs.declared.check.Answer.the-variants.{Passes, Refused}
 use Rattle.tokens.specs.Fundings.{Fundings}
-use Rattle.verdict.proofs.Fitting.{short-file}
+use Rattle.claim.proofs.Fitting.{short-file}
 use Rattle.verdict.proofs.Asking.{entry-missing, entry-counted}
 use Rattle.listing.specs.Output.{Written}
 use Rattle.listing.specs.Listing.{refusalLine, entryLines, listing, below}

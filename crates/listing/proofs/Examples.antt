@@ -8,8 +8,8 @@ use Rattle.fields.specs.Lists.{bytes}
 use Rattle.fields.specs.Field.{fields}
 use Rattle.fields.proofs.Writing.{integer, times}
 use Rattle.questions.specs.Questions.{passes, fails, askFile}
-use Rattle.verdict.specs.Verdict.{kind, index, spare}
-use Rattle.verdict.proofs.Samples.{found, entry, state, asset, guard, holds, amount, send, raising, drawing}
+use Rattle.claim.specs.Verdict.{kind, index, spare}
+use Rattle.claim.proofs.Samples.{found, entry, state, asset, guard, holds, amount, send, raising, drawing}
 use Rattle.listing.specs.Output.{digits, decimal}
 use Rattle.listing.specs.Listing.{refusalLine, acceptedLine, rejectedLine, coverLine, entryLines, below, listing}
 

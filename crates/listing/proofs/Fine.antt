@@ -24,7 +24,7 @@ use Rattle.questions.specs.Questions.{Asked, passes, fails, ask, _andThen_, con
 use Rattle.walking.specs.Walking.{bodyExprs, isPayout, payouts}
 use Rattle.walking.specs.Table.{placedAt, placesOf}
 use Rattle.verdict.specs.Calls.{wanted, wantedAt, chosenOf}
-use Rattle.verdict.specs.Verdict.{backingCount, entryAt, askEntry}
+use Rattle.claim.specs.Verdict.{backingCount, entryAt, askEntry}
 use Rattle.verdict.proofs.Called.{wantedIn, chosen-places}
 use Rattle.verdict.proofs.Asking.{every-at, entries-stand}
 

@@ -13,9 +13,9 @@ use Rattle.questions.specs.Model.{states, entries}
 use Rattle.questions.specs.Questions.{Asked, passes, fails, ask, _andThen_, atMost, askForm, askNames, askFile}
 use Rattle.walking.specs.Walking.{bodyExprs, isPayout, payouts}
 use Rattle.matching.specs.Matching.{Cover, start}
-use Rattle.verdict.specs.Verdict.{accepted, matching, backingCount, entryAt, askEntry, entryVerdict}
-use Rattle.verdict.proofs.Fitting.{earlier-asked, later-asked, asked}
-use Rattle.verdict.proofs.Passing.{a-pass, passed-count}
+use Rattle.claim.specs.Verdict.{accepted, matching, backingCount, entryAt, askEntry, entryVerdict}
+use Rattle.claim.proofs.Fitting.{earlier-asked, later-asked, asked}
+use Rattle.claim.proofs.Passing.{a-pass, passed-count}
 
 -- at most n
 at-most : (n k : ℕ) (l : List Placed) → atMost n k l ≡ passes → length l ≤ n

@@ -2,7 +2,7 @@
 use Prim.Native.Nat.{ℕ}
 use mathlib.Core.List.{List, [], _∷_}
 use Rattle.fields.specs.Lists.{bytes}
-use Rattle.verdict.specs.Claim.{kindAt, indexAt}
+use Rattle.claim.specs.Claim.{kindAt, indexAt}
 use Rattle.listing.specs.Output.{decimal}
 use Rattle.listing.specs.Listing.{line}
 

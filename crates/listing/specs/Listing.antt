@@ -7,7 +7,7 @@ use Rattle.fields.specs.Field.{Fields, fields}
 use Rattle.questions.specs.Model.{entries}
 use Rattle.questions.specs.Questions.{passes, fails, askFile}
 use Rattle.matching.specs.Matching.{Cover}
-use Rattle.verdict.specs.Verdict.{refused, rejected, accepted, entryAt, entryVerdict, kind, index, spare}
+use Rattle.claim.specs.Verdict.{refused, rejected, accepted, entryAt, entryVerdict, kind, index, spare}
 use Rattle.listing.specs.Output.{decimal}
 
 -- a line: words with a space between them, and a line feed at the end

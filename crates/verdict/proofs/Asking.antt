@@ -18,7 +18,7 @@ use Rattle.questions.specs.Shown.{shown}
 use Rattle.walking.specs.Walking.{bodyExprs, payouts}
 use Rattle.walking.specs.Table.{placedAt}
 use Rattle.verdict.specs.Calls.{wanted}
-use Rattle.verdict.specs.Verdict.{refused, entryAt, askEntry, entryVerdict}
+use Rattle.claim.specs.Verdict.{refused, entryAt, askEntry, entryVerdict}
 use Rattle.verdict.specs.Coded.{placedVerdict, backedVerdict}
 use Rattle.verdict.proofs.Called.{wantedIn}
 

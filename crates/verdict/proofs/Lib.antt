@@ -1,15 +1,3 @@
-pub mod Passing
-pub mod Numbered
-pub mod Sheets
-pub mod Backs
-pub mod Apart
-pub mod Exact
-pub mod Fitting
-pub mod Claim
-pub mod Samples
-pub mod Worked
-pub mod Examples
-pub mod Words
 pub mod Asking
 pub mod Called
 pub mod Chosen

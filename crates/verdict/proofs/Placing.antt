@@ -25,7 +25,7 @@ use Rattle.walking.proofs.Callers.{body-few}
 use Rattle.matching.specs.Tables.{Tabled, entryOf}
 use Rattle.tokens.specs.Fundings.{Standing}
 use Rattle.verdict.specs.Calls.{wanted, chosenOf, assetPlaces}
-use Rattle.verdict.specs.Verdict.{Verdict, refused, accepted, matchFrom, matching, backingCount, spare, entryAt, entryVerdict, sheet, written}
+use Rattle.claim.specs.Verdict.{Verdict, refused, accepted, matchFrom, matching, backingCount, spare, entryAt, entryVerdict, sheet, written}
 use Rattle.verdict.specs.Coded.{coded, placedVerdict, backedVerdict, Payouts, Calls}
 use Rattle.verdict.specs.declared.entry.Verdict.{Verdict as CodedVerdict}
 use Rattle.verdict.specs.declared.entry.Verdict.the-variants.{Refused, Accepted}

@@ -32,13 +32,13 @@ use Rattle.matching.specs.declared.answer.Answered.{Answered}
 use Rattle.matching.proofs.Backed.{backings-many}
 use Rattle.matching.proofs.Kept.{start-stands}
 use Rattle.matching.proofs.Ways.{Step, a-step}
-use Rattle.verdict.specs.Verdict.{Verdict, refused, rejected, accepted, withCover, matchFrom, matching, backingCount, spare, kind, index, sheet, written}
+use Rattle.claim.specs.Verdict.{Verdict, refused, rejected, accepted, withCover, matchFrom, matching, backingCount, spare, kind, index, sheet, written}
 use Rattle.verdict.specs.Sheet.{coverBytes}
 use Rattle.verdict.specs.Coded.{coded, rejectedBy, kindIn, indexIn, Payouts}
 use Rattle.verdict.specs.declared.entry.Verdict.{Verdict as CodedVerdict}
 use Rattle.verdict.specs.declared.entry.Verdict.the-variants.{Rejected as CodedRejected, Accepted as CodedAccepted}
-use Rattle.verdict.proofs.Backs.{Within, step-backs, step-within}
-use Rattle.verdict.proofs.Fitting.{backs-below, few-states}
+use Rattle.claim.proofs.Backs.{Within, step-backs, step-within}
+use Rattle.claim.proofs.Fitting.{backs-below, few-states}
 
 -- covers in front of those of the later payouts
 abbrev withCovers : List Cover → Verdict → Verdict

@@ -15,8 +15,8 @@ use Rattle.matching.specs.Tables.{entryOf}
 use Rattle.matching.specs.Coded.{coverOf, codedReason}
 use Rattle.matching.specs.declared.answer.Answer.{Answer}
 use Rattle.matching.specs.declared.answer.Answer.the-variants.{Covered, Rejected as Rejected′}
-use Rattle.verdict.specs.Verdict as rules
-use Rattle.verdict.specs.Verdict.Verdict.{refused, rejected, accepted}
+use Rattle.claim.specs.Verdict as rules
+use Rattle.claim.specs.Verdict.Verdict.{refused, rejected, accepted}
 use Rattle.verdict.specs.declared.entry.Verdict.{Verdict}
 use Rattle.verdict.specs.declared.entry.Verdict.the-variants.{Refused, Rejected, Accepted}
 

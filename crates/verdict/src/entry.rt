@@ -30,7 +30,7 @@ ghost use Rattle.tokens.specs.Fundings.{Fundings};
 ghost use Rattle.reserves.specs.Candidates.{Candidates};
 ghost use Rattle.matching.specs.Tables.{Tabled, entryOf};
 ghost use Rattle.matching.specs.Coded.{coverOf, codedReason};
-ghost use Rattle.verdict.specs.Verdict.{kind, index, matching, entryAt, entryVerdict, spare, written};
+ghost use Rattle.claim.specs.Verdict.{kind, index, matching, entryAt, entryVerdict, spare, written};
 ghost use Rattle.verdict.specs.Coded.{coded, rejectedBy, kindIn, indexIn, placedVerdict, backedVerdict, Payouts, Calls};
 
 // A "no" to a question; a payout that nothing covers, and why; or the number of payouts, each of which has a cover, and of the

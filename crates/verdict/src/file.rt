@@ -7,7 +7,7 @@ use questions::file::check_file;
 ghost use mathlib.Core.Path.{_≡_};
 ghost use lib.ListN.{length};
 ghost use Rattle.fields.specs.Field.{fields};
-ghost use Rattle.verdict.specs.Verdict.{verdict, entryAt, spare, written};
+ghost use Rattle.claim.specs.Verdict.{verdict, entryAt, spare, written};
 ghost use Rattle.verdict.specs.Coded.{coded};
 
 // The verdict on the n-th entry, counted from 0. The covers are written where it is accepted, and nothing is written otherwise.

@@ -1,6 +1,6 @@
 -- Case by case.
 use borrow.Author.Needs.{needs}
-use Rattle.verdict.specs.Verdict.{reason}
+use Rattle.claim.specs.Verdict.{reason}
 use Rattle.export.proofs.number_of.Statement.{statement}
 use Rattle.export.proofs.number_of.Tie as tie
 

@@ -1,7 +1,7 @@
 -- The numbers are those of the verdict, the bytes those that it writes, and demand 3 follows from the two.
 use mathlib.Core.Path.{refl}
 use borrow.Author.Needs.{needs}
-use Rattle.verdict.proofs.Claim.{demand-3-of}
+use Rattle.claim.proofs.Claim.{demand-3-of}
 use Rattle.export.proofs.Numbers.{accepted-outcome, accepted-first, accepted-second, rejected-outcome, rejected-first, rejected-second, refused-outcome, refused-first, refused-second}
 use Rattle.export.proofs.zevdrak_verdict.Statement.{statement}
 use Rattle.export.proofs.zevdrak_verdict.Tie as tie

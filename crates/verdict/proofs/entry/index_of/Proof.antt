@@ -1,6 +1,6 @@
 -- Case by case.
 use borrow.Author.Needs.{needs}
-use Rattle.verdict.specs.Verdict.{index}
+use Rattle.claim.specs.Verdict.{index}
 use Rattle.verdict.proofs.entry.index_of.Statement.{statement}
 use Rattle.verdict.proofs.entry.index_of.Tie as tie
 

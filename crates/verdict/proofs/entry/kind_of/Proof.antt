@@ -1,6 +1,6 @@
 -- Case by case.
 use borrow.Author.Needs.{needs}
-use Rattle.verdict.specs.Verdict.{kind}
+use Rattle.claim.specs.Verdict.{kind}
 use Rattle.verdict.proofs.entry.kind_of.Statement.{statement}
 use Rattle.verdict.proofs.entry.kind_of.Tie as tie
 

@@ -9,11 +9,11 @@ use Rattle.questions.specs.Questions.{passes, fails, askFile}
 use Rattle.questions.specs.Answers.{asked}
 use Rattle.questions.specs.declared.check.Answer.{Answer}
 use Rattle.questions.specs.declared.check.Answer.the-variants as question
-use Rattle.verdict.specs.Verdict.{Verdict, refused, entryAt, entryVerdict, verdict, spare, written}
+use Rattle.claim.specs.Verdict.{Verdict, refused, entryAt, entryVerdict, verdict, spare, written}
 use Rattle.verdict.specs.Coded.{coded}
 use Rattle.verdict.specs.declared.entry.Verdict.{Verdict as CodedVerdict}
 use Rattle.verdict.specs.declared.entry.Verdict.the-variants.{Refused}
-use Rattle.verdict.proofs.Fitting.{short-file}
+use Rattle.claim.proofs.Fitting.{short-file}
 use Rattle.verdict.proofs.file.file_verdict.Statement.{statement}
 use Rattle.verdict.proofs.file.file_verdict.Tie as tie
 

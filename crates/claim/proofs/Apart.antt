@@ -16,10 +16,10 @@ use Rattle.matching.specs.Matching.{Cover, Source, Backing, Marks, debit, param
 use Rattle.matching.specs.Matching.Cover.{reserve}
 use Rattle.matching.proofs.Counting.{bit, count, count-cons, count-append, count-none, count-index, count-taken, only-one}
 use Rattle.matching.proofs.Ways.{Step, equal, bounding, reserving}
-use Rattle.verdict.specs.Verdict.{kind, index}
-use Rattle.verdict.specs.Claim.{namedBy}
-use Rattle.verdict.proofs.Passing.{Passed, done, step}
-use Rattle.verdict.proofs.Backs.{debitOf, parameterOf}
+use Rattle.claim.specs.Verdict.{kind, index}
+use Rattle.claim.specs.Claim.{namedBy}
+use Rattle.claim.proofs.Passing.{Passed, done, step}
+use Rattle.claim.proofs.Backs.{debitOf, parameterOf}
 
 -- the cover names the debit (k is 1), parameter (2) or reserve (5) at index i
 abbrev pub names : ℕ → ℕ → Cover → Bool

@@ -17,8 +17,8 @@ use Rattle.matching.proofs.Finding.{any-taken, find-none, find-passes, find-fil
 use Rattle.matching.proofs.Counting.{count}
 use Rattle.matching.proofs.Alike.{equal-present, alike, alike-equals, other-equals}
 use Rattle.matching.proofs.Ways.{Agree, gone, taking, Step, equal, bounding, reserving}
-use Rattle.verdict.specs.Verdict.{accepted, matchFrom}
-use Rattle.verdict.proofs.Passing.{Passed, done, step}
+use Rattle.claim.specs.Verdict.{accepted, matchFrom}
+use Rattle.claim.proofs.Passing.{Passed, done, step}
 
 -- of the free backings equal to p, the one after as many as there are payouts of that amount in qs
 abbrev pub jthOf : List Backing → List Field → Field → Option Backing

@@ -12,7 +12,7 @@ use Rattle.fields.specs.Lists.{any, position, numbered}
 use Rattle.fields.proofs.Bools.{and-left, and-right}
 use Rattle.matching.proofs.Truths.{either}
 use Rattle.matching.proofs.Finding.{find-passes, find-position, any-finds}
-use Rattle.verdict.specs.Claim.{passesAt}
+use Rattle.claim.specs.Claim.{passesAt}
 
 -- an index at which an element passes is below the length
 pub at-below : {A : Type 0} (f : A → Bool) (l : List A) (i : ℕ) → passesAt f l i ≡ true → i < length l

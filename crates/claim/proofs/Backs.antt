@@ -24,10 +24,10 @@ use Rattle.matching.proofs.Truths.{and-both, or-right}
 use Rattle.matching.proofs.Finding.{any-append, any-implied, any-found, any-taken, find-passes}
 use Rattle.matching.proofs.Counting.{any-none}
 use Rattle.matching.proofs.Ways.{Agree, Step, equal, bounding, reserving}
-use Rattle.verdict.specs.Verdict.{kind, index}
-use Rattle.verdict.specs.Claim.{passesAt, notKnownToDiffer, backsEqual, backsBounding, backsReserve, backs}
-use Rattle.verdict.proofs.Passing.{Passed, done, step}
-use Rattle.verdict.proofs.Numbered.{at-number, at-position}
+use Rattle.claim.specs.Verdict.{kind, index}
+use Rattle.claim.specs.Claim.{passesAt, notKnownToDiffer, backsEqual, backsBounding, backsReserve, backs}
+use Rattle.claim.proofs.Passing.{Passed, done, step}
+use Rattle.claim.proofs.Numbered.{at-number, at-position}
 
 abbrev isDebit : Source → Bool
 isDebit debit = true

@@ -19,7 +19,7 @@ use Rattle.tokens.specs.Tokens.{single, differ, besideInAsset, tokenNamed, toke
 use Rattle.reserve_tokens.specs.ReserveTokens.{assigns, value, setsFrom, isZero, defaults, genesisValues, startsAtZero, raise, raises, credited, guardToken, guardTokens, only, debitToken, raiseToken, raiseTokens, reserveToken}
 use Rattle.reserves.specs.Reserves.{containsInflow, guardedField, guardedAmount, guardedBy, containsWrapping, loweredBy, lowers, reserveCovers, reserveBoundingPayout}
 use Rattle.matching.specs.Matching.{debitBackings, parameterBackings, backings, payoutToken, payoutAmount, equals, bounds, takeBacking, takeReserve, byReserve, byBounding, notTaken, byEqual, answer, start}
-use Rattle.verdict.specs.Verdict.{Verdict, matchFrom, matching, backingCount, entryAt, askEntry, entryVerdict, verdict, kind, index, sheet, written, spare}
+use Rattle.claim.specs.Verdict.{Verdict, matchFrom, matching, backingCount, entryAt, askEntry, entryVerdict, verdict, kind, index, sheet, written, spare}
 
 -- Rows
 

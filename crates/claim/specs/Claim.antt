@@ -20,7 +20,7 @@ use Rattle.tokens.specs.Tokens.{differ}
 use Rattle.reserves.specs.Reserves.{reserveCovers}
 use Rattle.matching.specs.Matching.{Cover, Source, Backing, debitBackings, parameterBackings, payoutToken, payoutAmount, equals, bounds}
 use Rattle.matching.specs.Matching.Source.{debit, parameter}
-use Rattle.verdict.specs.Verdict.{Verdict, accepted, matching, entryAt, askEntry, verdict, written}
+use Rattle.claim.specs.Verdict.{Verdict, accepted, matching, entryAt, askEntry, verdict, written}
 
 -- "the covers written": the kind of payout i's cover, the first of its three bytes
 abbrev pub kindAt : List ℕ → ℕ → ℕ

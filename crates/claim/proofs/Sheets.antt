@@ -6,8 +6,8 @@ use mathlib.Core.List.{List, [], _∷_, _++_}
 use lib.ListN.{length, getD}
 use Rattle.matching.specs.Matching.{Cover, Source, Backing, debit, parameter, equalCover}
 use Rattle.matching.specs.Matching.Cover.{equalDebit, equalParameter}
-use Rattle.verdict.specs.Verdict.{kind, index, sheet}
-use Rattle.verdict.specs.Claim.{kindAt, indexAt, equalKind}
+use Rattle.claim.specs.Verdict.{kind, index, sheet}
+use Rattle.claim.specs.Claim.{kindAt, indexAt, equalKind}
 
 -- the sheet of bytes says each cover's kind and index
 pub kind-at : (cs : List Cover) (rest : List ℕ) (i : ℕ) (d : Cover) → i < length cs → kindAt (sheet cs ++ rest) i ≡ kind (getD cs i d)

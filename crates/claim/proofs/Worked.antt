@@ -7,8 +7,8 @@ use Rattle.fields.specs.Tag.{State, Genesis, Entry, Limits, Name, Date, String,
 use Rattle.fields.proofs.Writing.{write, word, name, integer, identifier, times, nots}
 use Rattle.matching.specs.Matching.Cover.{equalDebit, equalParameter, boundingDebit, boundingParameter, reserve}
 use Rattle.matching.specs.Matching.Reason.{splitWithoutAmount, conflictAtEqual, amountTaken, noReserve}
-use Rattle.verdict.specs.Verdict.{refused, rejected, accepted, written, sheet, kind, index}
-use Rattle.verdict.proofs.Samples.{Row, about, found, stated, left, spareOf, entry, one, state, asset, plain, guard, statement, caller, inAsset, holds, n, amount, half, lessOne, member, debit, send, raising, drawing}
+use Rattle.claim.specs.Verdict.{refused, rejected, accepted, written, sheet, kind, index}
+use Rattle.claim.proofs.Samples.{Row, about, found, stated, left, spareOf, entry, one, state, asset, plain, guard, statement, caller, inAsset, holds, n, amount, half, lessOne, member, debit, send, raising, drawing}
 
 -- document 01's 66 bytes
 unfoldable k3 : List ℕ

@@ -8,7 +8,7 @@ use Rattle.fields.specs.Field.{Field, Fields}
 use Rattle.matching.specs.Matching.{Cover, Marks, Answer, answer}
 use Rattle.matching.specs.Matching.Answer.{cover, rejection}
 use Rattle.matching.proofs.Ways.{Step, a-step}
-use Rattle.verdict.specs.Verdict.{Verdict, refused, rejected, accepted, withCover, matchFrom}
+use Rattle.claim.specs.Verdict.{Verdict, refused, rejected, accepted, withCover, matchFrom}
 
 module _ (model : Fields) (entry : Field) where
   -- a pass over payouts that gives each a cover

@@ -13,13 +13,13 @@ use Rattle.walking.specs.Walking.{payouts}
 use Rattle.tokens.specs.Tokens.{differ}
 use Rattle.matching.specs.Matching.{Cover, payoutToken, backings, equalCover, start}
 use Rattle.matching.specs.Matching.Cover.{reserve}
-use Rattle.verdict.specs.Verdict.{Verdict, accepted, matching, entryAt, entryVerdict, verdict, kind, index, written}
-use Rattle.verdict.specs.Claim.{kindAt, indexAt, namedBy, notKnownToDiffer, backs, Accepted, EachPayout, EachEqualsSome, earlier, jth, HasJth, NamesJth, payoutAt, Backed, Demand3, Claim}
-use Rattle.verdict.proofs.Passing.{Passed, a-pass, passed-count}
-use Rattle.verdict.proofs.Sheets.{kind-at, index-at, equal-kind, equal-index}
-use Rattle.verdict.proofs.Backs.{passed-backs}
-use Rattle.verdict.proofs.Apart.{apart-covers}
-use Rattle.verdict.proofs.Exact.{AllMet, Has, passed-jth, jth-passes}
+use Rattle.claim.specs.Verdict.{Verdict, accepted, matching, entryAt, entryVerdict, verdict, kind, index, written}
+use Rattle.claim.specs.Claim.{kindAt, indexAt, namedBy, notKnownToDiffer, backs, Accepted, EachPayout, EachEqualsSome, earlier, jth, HasJth, NamesJth, payoutAt, Backed, Demand3, Claim}
+use Rattle.claim.proofs.Passing.{Passed, a-pass, passed-count}
+use Rattle.claim.proofs.Sheets.{kind-at, index-at, equal-kind, equal-index}
+use Rattle.claim.proofs.Backs.{passed-backs}
+use Rattle.claim.proofs.Apart.{apart-covers}
+use Rattle.claim.proofs.Exact.{AllMet, Has, passed-jth, jth-passes}
 
 module _ (model : Fields) (entry : Field) (lent : List ℕ) where
   -- the entry is accepted with these covers

@@ -7,9 +7,9 @@ use mathlib.Core.Option.{none, some}
 use Rattle.fields.specs.Tag.{Checked}
 use Rattle.fields.specs.Field.{front, fields}
 use Rattle.fields.proofs.Writing.{write, integer}
-use Rattle.verdict.specs.Verdict.{entryAt}
-use Rattle.verdict.specs.Claim.{namedBy, equalKind, passesAt, notKnownToDiffer, backsEqual, backsBounding, backsReserve, backs, payoutAt, earlier, jth}
-use Rattle.verdict.proofs.Samples.{found, entry, state, asset, plain, guard, holds, n, amount, half, debit, send, raising, drawing}
+use Rattle.claim.specs.Verdict.{entryAt}
+use Rattle.claim.specs.Claim.{namedBy, equalKind, passesAt, notKnownToDiffer, backsEqual, backsBounding, backsReserve, backs, payoutAt, earlier, jth}
+use Rattle.claim.proofs.Samples.{found, entry, state, asset, plain, guard, holds, n, amount, half, debit, send, raising, drawing}
 
 -- whether the covers of a kind and an index back payout i of entry e
 unfoldable backing : List ℕ → (e i : ℕ) → List (ℕ × ℕ) → List Bool

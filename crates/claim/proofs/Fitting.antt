@@ -20,10 +20,10 @@ use Rattle.matching.specs.Matching.Answer.{cover}
 use Rattle.matching.proofs.Truths.{either}
 use Rattle.matching.proofs.Counting.{count}
 use Rattle.matching.proofs.Ways.{a-step}
-use Rattle.verdict.specs.Verdict.{backingCount, entryAt, askEntry, kind, index}
-use Rattle.verdict.specs.Claim.{passesAt, backsEqual, backsBounding, backsReserve, backs}
-use Rattle.verdict.proofs.Numbered.{at-below}
-use Rattle.verdict.proofs.Backs.{Within, step-backs}
+use Rattle.claim.specs.Verdict.{backingCount, entryAt, askEntry, kind, index}
+use Rattle.claim.specs.Claim.{passesAt, backsEqual, backsBounding, backsReserve, backs}
+use Rattle.claim.proofs.Numbered.{at-below}
+use Rattle.claim.proofs.Backs.{Within, step-backs}
 
 length-numbered : {A : Type 0} (n : ℕ) (l : List A) → length (numbered n l) ≡ length l
 unfolding numbered

@@ -1,0 +1,12 @@
+pub mod Passing
+pub mod Numbered
+pub mod Sheets
+pub mod Backs
+pub mod Apart
+pub mod Exact
+pub mod Fitting
+pub mod Claim
+pub mod Samples
+pub mod Worked
+pub mod Examples
+pub mod Words
