@@ -7,7 +7,7 @@ use mathlib.Core.List.{List}
 use native.Mathlib.Omega.{arith}
 use borrow.Author.Tests.{not-true, not-false}
 use lib.ListN.{length, take, drop, length-drop}
-use Rattle.fields.specs.Tag.{isWrapper}
+use Rattle.tags.specs.Tag.{isWrapper}
 use Rattle.fields.specs.Field.{Field, Fields, whole, front, tag, parts, part, nth, nothing, sizes}
 use Rattle.fields.specs.Field.Field.{field}
 use Rattle.fields.specs.Field.Fields.{end, next}

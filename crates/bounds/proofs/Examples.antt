@@ -4,8 +4,8 @@ use mathlib.Core.Path.{_≡_, refl}
 use mathlib.Core.Bool.{Bool, true, false}
 use mathlib.Core.List.{List, [], _∷_, _++_}
 use Rattle.fields.specs.Lists.{any, all, filter, sameBytes}
-use Rattle.fields.specs.Tag.{composite, isWrapper}
-use Rattle.fields.specs.Tag as tag
+use Rattle.tags.specs.Tag.{composite, isWrapper}
+use Rattle.tags.specs.Tag as tag
 use Rattle.fields.specs.Field.{fields, fieldsTo, front, nth}
 use Rattle.fields.proofs.Writing.{write, word, name, integer, identifier}
 use Rattle.walking.specs.Walking.{peel, peelFirst}

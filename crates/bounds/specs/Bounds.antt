@@ -2,7 +2,7 @@
 use Prim.Native.Nat.{ℕ}
 use mathlib.Core.Bool.{Bool, false, _&&_, _||_, not}
 use lib.Dec.{eqb}
-use Rattle.fields.specs.Tag.{Checked, Wrapping, Sub, Div, Rem, Shr}
+use Rattle.tags.specs.Tag.{Checked, Wrapping, Sub, Div, Rem, Shr}
 use Rattle.fields.specs.Field.{Field, Fields}
 use Rattle.fields.specs.Field.Field.{field}
 use Rattle.fields.specs.Field.Fields.{end, next}

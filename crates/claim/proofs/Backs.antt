@@ -12,7 +12,7 @@ use lib.Dec.{eqb}
 use lib.ListN.{length, getD}
 use Rattle.fields.specs.Lists.{any, find, removeFirst, position, numbered, sameBytes}
 use Rattle.fields.specs.Field.{Field, Fields, nothing, part}
-use Rattle.fields.proofs.Bools.{and-left, and-right}
+use Rattle.tags.proofs.Bools.{and-left, and-right}
 use Rattle.fields.proofs.Texts.{bytes-equal}
 use Rattle.questions.specs.Model.{stateNames}
 use Rattle.walking.specs.Walking.{peel, receiver, debits, assetParams}

@@ -3,8 +3,8 @@ use Prim.Native.String.{String}
 use Prim.Native.Nat.{ℕ}
 use mathlib.Core.Path.{_≡_, refl}
 use mathlib.Core.List.{List, [], _∷_, _++_}
-use Rattle.fields.specs.Tag.{Genesis, Limits, Denies, Set, AddTo, SubtractFrom, Not, Call, Checked, Wrapping, Or, And, Eq, Ne, Lt, Ge, Add, Sub, Rem, Shr}
-use Rattle.fields.specs.Tag.{String as StringTag}
+use Rattle.tags.specs.Tag.{Genesis, Limits, Denies, Set, AddTo, SubtractFrom, Not, Call, Checked, Wrapping, Or, And, Eq, Ne, Lt, Ge, Add, Sub, Rem, Shr}
+use Rattle.tags.specs.Tag.{String as StringTag}
 use Rattle.fields.proofs.Writing.{write, word, integer, identifier}
 use Rattle.matching.specs.Matching.Cover.{equalDebit, equalParameter, boundingDebit, reserve}
 use Rattle.matching.specs.Matching.Reason.{conflictAtEqual, conflictAtBounding, noReserve, reserveUsed}

@@ -9,9 +9,9 @@ use borrow.Author.Tests.{leb-true}
 use lib.Dec.{eqb, leb, ltb}
 use lib.ListN.{length, length-map}
 use Rattle.fields.specs.Lists.{filter, numbered}
-use Rattle.fields.specs.Tag.{State, between}
+use Rattle.tags.specs.Tag.{State, between}
 use Rattle.fields.specs.Field.{Field, Fields, fields, tag, fieldsTo, row, fieldsFrom, whole, after}
-use Rattle.fields.proofs.Bools.{and-right}
+use Rattle.tags.proofs.Bools.{and-right}
 use Rattle.questions.specs.Model.{stateNames, entries}
 use Rattle.questions.specs.Questions.{Asked, passes, fails, ask, _andThen_, askForm, askFile, atMost}
 use Rattle.walking.specs.Walking.{debits, assetParams, isPayout, bodyExprs}

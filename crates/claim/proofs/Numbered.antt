@@ -9,7 +9,7 @@ use borrow.Author.Tests.{eqb-true}
 use lib.Dec.{eqb}
 use lib.ListN.{length}
 use Rattle.fields.specs.Lists.{any, position, numbered}
-use Rattle.fields.proofs.Bools.{and-left, and-right}
+use Rattle.tags.proofs.Bools.{and-left, and-right}
 use Rattle.matching.proofs.Truths.{either}
 use Rattle.matching.proofs.Finding.{find-passes, find-position, any-finds}
 use Rattle.claim.specs.Claim.{passesAt}

@@ -4,8 +4,8 @@ use Prim.Native.String.{String}
 use mathlib.Core.List.{List, [], _++_, map, flatMap}
 use lib.ListN.{length}
 use Rattle.fields.specs.Lists.{any, all, filter, find, removeFirst, position, numbered, sameBytes, known}
-use Rattle.fields.specs.Tag.{State, Entry, Parameter, Guard, AddTo, SubtractFrom, ExpressionStatement, Caller, InAsset, Member, Call, Eq, Ge, Sub, Mul, Div}
-use Rattle.fields.specs.Tag.{isItem, isClause, isStatement, isAssign, isExpression, isText, isWrapper, composite}
+use Rattle.tags.specs.Tag.{State, Entry, Parameter, Guard, AddTo, SubtractFrom, ExpressionStatement, Caller, InAsset, Member, Call, Eq, Ge, Sub, Mul, Div}
+use Rattle.tags.specs.Tag.{isItem, isClause, isStatement, isAssign, isExpression, isText, isWrapper, composite}
 use Rattle.fields.specs.Field.{fields, fieldsTo, nth, row, fieldsFrom, size, sizes, placed, placedFrom}
 use Rattle.fields.proofs.Writing.{write, name, typeName, integer, identifier}
 use Rattle.questions.specs.Model.{states, stateNames, genesis, entries, params, body}

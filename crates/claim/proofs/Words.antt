@@ -4,7 +4,7 @@ use mathlib.Core.Path.{_≡_, refl}
 use mathlib.Core.Bool.{Bool, true, false}
 use mathlib.Core.List.{List, [], _∷_, _++_, map}
 use mathlib.Core.Option.{none, some}
-use Rattle.fields.specs.Tag.{Checked}
+use Rattle.tags.specs.Tag.{Checked}
 use Rattle.fields.specs.Field.{front, fields}
 use Rattle.fields.proofs.Writing.{write, integer}
 use Rattle.claim.specs.Verdict.{entryAt}

@@ -3,7 +3,7 @@ use Prim.Native.Nat.{ℕ}
 use mathlib.Core.Path.{_≡_, refl}
 use mathlib.Core.List.{List, [], _∷_, _++_}
 use lib.ListN.{replicate}
-use Rattle.fields.specs.Tag.{State, Genesis, Entry, Limits, Name, Date, String, Caller, Call, Checked, Wrapping, Eq}
+use Rattle.tags.specs.Tag.{State, Genesis, Entry, Limits, Name, Date, String, Caller, Call, Checked, Wrapping, Eq}
 use Rattle.fields.proofs.Writing.{write, word, name, integer, identifier, times, nots}
 use Rattle.matching.specs.Matching.Cover.{equalDebit, equalParameter, boundingDebit, boundingParameter, reserve}
 use Rattle.matching.specs.Matching.Reason.{splitWithoutAmount, conflictAtEqual, amountTaken, noReserve}

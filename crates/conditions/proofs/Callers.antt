@@ -10,7 +10,7 @@ use borrow.Author.Tests.{leb-true, le-leb, lt-leb}
 use lib.Dec.{eqb}
 use lib.ListN.{length, take, drop, length-map}
 use Rattle.fields.specs.Lists.{filter}
-use Rattle.fields.specs.Tag.{Limits, Denies, Guard, Not, Or, And, Eq, Ge, between}
+use Rattle.tags.specs.Tag.{Limits, Denies, Guard, Not, Or, And, Eq, Ge, between}
 use Rattle.fields.specs.Field.{Field, Fields, Placed, lengthOf, whole, front, tag, parts, size, sizes, placed, placedParts, placedFrom}
 use Rattle.fields.specs.Field.Field.{field}
 use Rattle.fields.specs.Field.Fields.{end, next}

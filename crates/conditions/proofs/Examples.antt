@@ -4,7 +4,7 @@ use mathlib.Core.Path.{_≡_, refl}
 use mathlib.Core.Bool.{true, false}
 use mathlib.Core.List.{List, [], _∷_, _++_, map, flatMap}
 use Rattle.fields.specs.Lists.{filter}
-use Rattle.fields.specs.Tag.{Entry, Limits, Denies, Guard, Let, Identifier, Not, Negate, Call, Checked, Wrapping, Or, And, Eq, Ne, Lt, Gt, Le, Ge, Add, composite}
+use Rattle.tags.specs.Tag.{Entry, Limits, Denies, Guard, Let, Identifier, Not, Negate, Call, Checked, Wrapping, Or, And, Eq, Ne, Lt, Gt, Le, Ge, Add, composite}
 use Rattle.fields.specs.Field.{fields, fieldsTo, front, nth, nothing, size, sizes, placed, placedFrom}
 use Rattle.fields.proofs.Writing.{write, name, identifier}
 use Rattle.conditions.specs.Conditions.{splitAnd, splitFirst, negated, negatedFirst, conditionsOf, requiredConditions, opposite, operator}

@@ -8,7 +8,7 @@ use borrow.Author.Tests.{eq-eqb, ne-eqb}
 use lib.Dec.{eqb, leb}
 use native.Mathlib.Omega.{arith}
 use lib.ListN.{length, take, drop, length-map}
-use Rattle.fields.specs.Tag.{Not, Or, And, Eq, Ge, between}
+use Rattle.tags.specs.Tag.{Not, Or, And, Eq, Ge, between}
 use Rattle.fields.specs.Field.{Field, Fields, fields, tagOf, whole, front, tag, parts, size, sizes}
 use Rattle.fields.specs.Field.Field.{field}
 use Rattle.fields.specs.Table.{Listed}

@@ -3,7 +3,7 @@ use Prim.Native.Nat.{ℕ, _+_}
 use mathlib.Core.Bool.{Bool, true, false, cond}
 use mathlib.Core.List.{List, [], _∷_, _++_, flatMap}
 use lib.Dec.{eqb}
-use Rattle.fields.specs.Tag.{Limits, Denies, Guard, Not, Or, And, Eq, Ne, Lt, Gt, Le, Ge, between}
+use Rattle.tags.specs.Tag.{Limits, Denies, Guard, Not, Or, And, Eq, Ne, Lt, Gt, Le, Ge, between}
 use Rattle.fields.specs.Field.{Field, Fields, Placed, tag, parts, size, placedFrom}
 use Rattle.fields.specs.Field.Field.{field}
 use Rattle.fields.specs.Field.Fields.{end, next}

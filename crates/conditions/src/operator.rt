@@ -1,11 +1,11 @@
 // SPDX-License-Identifier: Apache-2.0 OR MIT
 // The operator of a condition, after any flipping.
-use fields::tag::EQ;
-use fields::tag::GE;
-use fields::tag::GT;
-use fields::tag::LE;
-use fields::tag::LT;
-use fields::tag::NE;
+use tags::EQ;
+use tags::GE;
+use tags::GT;
+use tags::LE;
+use tags::LT;
+use tags::NE;
 ghost use mathlib.Core.Path.{_≡_};
 ghost use mathlib.Core.Bool.{cond};
 ghost use Rattle.conditions.specs.Conditions.{opposite};

@@ -7,12 +7,12 @@ use mathlib.Core.List.{List, []}
 use borrow.Author.Tests.{eq-eqb, eqb-true, ne-eqb}
 use lib.Dec.{eqb}
 use Rattle.fields.specs.Lists.{sameBytes, bytes}
-use Rattle.fields.specs.Tag.{Name, Identifier, Member, composite}
+use Rattle.tags.specs.Tag.{Name, Identifier, Member, composite}
 use Rattle.fields.specs.Field.{Field, Fields, fieldWith, fields, tagOf, whole, content, after, front, tag, text, parts, nth, nothing}
 use Rattle.fields.specs.Field.Field.{field}
 use Rattle.fields.specs.Field.Fields.{end, next}
 use Rattle.fields.proofs.Reading.{fields-next, fields-end, front-whole, front-none}
-use Rattle.fields.proofs.Bools.{and-true}
+use Rattle.tags.proofs.Bools.{and-true}
 use Rattle.fields.proofs.Texts.{number-symmetric}
 use Rattle.equality.specs.Equality.{sameText, exprEq, partsEq}
 use Rattle.equality.specs.Amount.{amountOf}

@@ -6,11 +6,11 @@ use mathlib.Core.List.{List}
 use borrow.Author.Tests.{eqb-true, eq-eqb}
 use lib.Dec.{eqb}
 use Rattle.fields.specs.Lists.{sameBytes}
-use Rattle.fields.specs.Tag.{Name, Integer, String, Identifier, Caller, Now, composite}
+use Rattle.tags.specs.Tag.{Name, Integer, String, Identifier, Caller, Now, composite}
 use Rattle.fields.specs.Field.{Field, Fields, tag, nothing}
 use Rattle.fields.specs.Field.Field.{field}
 use Rattle.fields.specs.Field.Fields.{end, next}
-use Rattle.fields.proofs.Bools.{and-left, and-right}
+use Rattle.tags.proofs.Bools.{and-left, and-right}
 use Rattle.fields.proofs.Texts.{bytes-equal, bytes-same, bytes-symmetric, bytes-transitive, number-symmetric}
 use Rattle.equality.specs.Equality.{strip, sameText, exprEq, partsEq}
 

@@ -5,8 +5,8 @@ use mathlib.Core.Path.{_≡_, refl}
 use mathlib.Core.Bool.{Bool, true, false}
 use mathlib.Core.List.{List, [], _∷_}
 use Rattle.fields.specs.Lists.{any, all, filter, sameBytes, bytes}
-use Rattle.fields.specs.Tag.{isExpression, composite}
-use Rattle.fields.specs.Tag as tag
+use Rattle.tags.specs.Tag.{isExpression, composite}
+use Rattle.tags.specs.Tag as tag
 use Rattle.fields.specs.Field.{Field, fields, fieldsTo, nth, front, nothing}
 use Rattle.fields.specs.Field.Field.{field}
 use Rattle.fields.specs.Field.Fields.{end, next}

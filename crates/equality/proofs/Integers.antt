@@ -8,7 +8,7 @@ use borrow.Author.Tests.{eq-eqb, ne-eqb, ltb-true, ltb-false}
 use lib.Dec.{eqb, ltb}
 use lib.ListN.{length, getD, drop, drop-of-length-le}
 use Rattle.fields.specs.Lists.{all, filter, sameBytes}
-use Rattle.fields.proofs.Bools.{and-left, and-right}
+use Rattle.tags.proofs.Bools.{and-left, and-right}
 use Rattle.fields.proofs.Slices.{drop-step}
 use Rattle.fields.proofs.Texts.{bytes-symmetric}
 use Rattle.equality.specs.Equality.{isUnderscore, strip}

@@ -7,13 +7,13 @@ use native.Mathlib.Omega.{arith}
 use borrow.Author.Tests.{leb-true, leb-false, lt-leb, ne-eqb, eq-eqb}
 use lib.Dec.{T, leb, eqb, leb→le}
 use Rattle.fields.specs.Lists.{filter, sameBytes}
-use Rattle.fields.specs.Tag.{isExpression, composite}
+use Rattle.tags.specs.Tag.{isExpression, composite}
 use Rattle.fields.specs.Field.{Field, Fields}
 use Rattle.fields.specs.Field.Field.{field}
 use Rattle.fields.specs.Field.Fields.{end, next}
-use Rattle.fields.proofs.Bools.{and-left, and-right}
+use Rattle.tags.proofs.Bools.{and-left, and-right}
 use Rattle.fields.proofs.Texts.{bytes-same}
-use Rattle.fields.proofs.Below.{below}
+use Rattle.tags.proofs.Below.{below}
 use Rattle.equality.specs.Equality.{strip, sameText, exprEq, partsEq}
 use Rattle.equality.specs.Itself.{everyTag, everyTags, equalsNothing, inExpression, equalsItself}
 

@@ -2,7 +2,7 @@
 use Prim.Native.Nat.{ℕ}
 use mathlib.Core.List.{List, []}
 use Rattle.fields.specs.Lists.{bytes}
-use Rattle.fields.specs.Tag.{Name, Identifier, Member}
+use Rattle.tags.specs.Tag.{Name, Identifier, Member}
 use Rattle.fields.specs.Field.{Field}
 use Rattle.fields.specs.Field.Field.{field}
 use Rattle.fields.specs.Field.Fields.{end, next}

@@ -4,7 +4,7 @@ use mathlib.Core.Bool.{Bool, true, false, not, _&&_, _||_}
 use mathlib.Core.List.{List}
 use lib.Dec.{eqb}
 use Rattle.fields.specs.Lists.{filter, sameBytes}
-use Rattle.fields.specs.Tag.{Name, Integer, String, Identifier, Caller, Now, composite}
+use Rattle.tags.specs.Tag.{Name, Integer, String, Identifier, Caller, Now, composite}
 use Rattle.fields.specs.Field.{Field, Fields, tagOf, whole}
 use Rattle.fields.specs.Field.Field.{field}
 use Rattle.fields.specs.Field.Fields.{end, next}

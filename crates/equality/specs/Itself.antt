@@ -2,7 +2,7 @@
 use Prim.Native.Nat.{ℕ}
 use mathlib.Core.Bool.{Bool, true, not, _&&_, _||_}
 use lib.Dec.{eqb}
-use Rattle.fields.specs.Tag.{Name, Date, Native, InAsset, isExpression, composite}
+use Rattle.tags.specs.Tag.{Name, Date, Native, InAsset, isExpression, composite}
 use Rattle.fields.specs.Field.{Field, Fields}
 use Rattle.fields.specs.Field.Field.{field}
 use Rattle.fields.specs.Field.Fields.{end, next}

@@ -9,7 +9,7 @@ use borrow.Author.Tests.{leb-true, leb-false}
 use lib.Dec.{leb}
 use lib.ListN.{length, getD, take, drop, length-take, List·getD-eq-default, take-append-drop}
 use lib.Seq.{getD-take, getD-drop, drop-drop, drop-cons}
-use Rattle.fields.specs.Tag.{composite}
+use Rattle.tags.specs.Tag.{composite}
 use Rattle.fields.specs.Field.{Field, Fields, fields, tagOf, lengthOf, whole, content, after, front, sizes, encode, encodes}
 use Rattle.fields.specs.Field.Field.{field}
 use Rattle.fields.specs.Field.Fields.{end, next}

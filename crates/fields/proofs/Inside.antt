@@ -9,7 +9,7 @@ use native.Mathlib.Nat.{sub-zero, zero-sub, suc-sub-suc}
 use borrow.Author.Tests.{leb-true, le-leb}
 use lib.ListN.{length, take, drop, length-take, length-drop, take-append-drop}
 use lib.Seq.{getD-take, take-nil, take-append-le, drop-append-le, drop-drop}
-use Rattle.fields.specs.Tag.{composite}
+use Rattle.tags.specs.Tag.{composite}
 use Rattle.fields.specs.Field.{Field, Fields, Placed, fields, tagOf, lengthOf, whole, content, after, front, parts, size, sizes, placed, placedParts}
 use Rattle.fields.specs.Field.Field.{field}
 use Rattle.fields.specs.Field.Fields.{end, next}

@@ -1,4 +1,3 @@
-pub mod Bools
 pub mod Told
 pub mod Lists
 pub mod Slices
@@ -10,8 +9,6 @@ pub mod Rows
 pub mod Inside
 pub mod Prefix
 pub mod Encoding
-pub mod Ranges
-pub mod Below
 pub mod Tables
 pub mod Listing
 pub mod Seeking

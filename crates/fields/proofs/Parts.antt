@@ -4,11 +4,11 @@ use mathlib.Core.Path.{_≡_, refl, sym, ap, _∙_}
 use mathlib.Core.Bool.{Bool, true, false, cond, not, _&&_}
 use mathlib.Core.List.{List, []}
 use lib.ListN.{length, take, drop}
-use Rattle.fields.specs.Tag.{composite}
+use Rattle.tags.specs.Tag.{composite}
 use Rattle.fields.specs.Field.{Fields, fields, fieldWith, tagOf, lengthOf, whole, content, front, tag, text, parts, sizes}
 use Rattle.fields.specs.Field.Field.{field}
 use Rattle.fields.specs.Field.Fields.{end, next}
-use Rattle.fields.proofs.Bools.{and-left}
+use Rattle.tags.proofs.Bools.{and-left}
 use Rattle.fields.proofs.Reading.{front-whole, front-none, fields-end}
 use Rattle.fields.proofs.Places.{content-length, tree-size}
 

@@ -8,7 +8,7 @@ use native.Mathlib.Numerals.{add-one}
 use borrow.Author.Tests.{leb-true}
 use lib.ListN.{length, take, drop, length-drop, length-take}
 use lib.Seq.{drop-drop, drop-nil, drop-length}
-use Rattle.fields.specs.Tag.{composite}
+use Rattle.tags.specs.Tag.{composite}
 use Rattle.fields.specs.Field.{Field, Fields, fields, tagOf, lengthOf, whole, content, after, front, nth, nothing, tag, text, parts, size, sizes, placeOf}
 use Rattle.fields.specs.Field.Field.{field}
 use Rattle.fields.specs.Field.Fields.{end, next}

@@ -8,7 +8,7 @@ use borrow.Author.Tests.{leb-true, le-leb}
 use lib.ListN.{length, getD, take, drop, length-append, length-take, length-drop, drop-of-length-le}
 use lib.Seq.{take-add, take-append-seam, drop-append-le, getD-take}
 use Rattle.fields.specs.Lists.{filter}
-use Rattle.fields.specs.Tag.{between}
+use Rattle.tags.specs.Tag.{between}
 use Rattle.fields.specs.Field.{Field, Fields, fields, tagOf, lengthOf, whole, content, after, front, tag, row, fieldsFrom}
 use Rattle.fields.specs.Field.Fields.{end, next}
 use Rattle.fields.proofs.Lists.{filter-append}

@@ -9,7 +9,7 @@ use lib.ListN.{length, length-take, length-drop, drop-of-length-le}
 use Rattle.fields.specs.Field.{Field, Fields, fields, fieldsTo, fieldWith, tagOf, lengthOf, whole, content, after, front, nth, nothing}
 use Rattle.fields.specs.Field.Field.{field}
 use Rattle.fields.specs.Field.Fields.{end, next}
-use Rattle.fields.specs.Tag.{composite}
+use Rattle.tags.specs.Tag.{composite}
 
 -- where a whole field stands at the front, its content and what is behind it are shorter
 module _ (s : List ℕ) (w : whole s ≡ true) where

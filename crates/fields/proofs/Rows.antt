@@ -11,7 +11,7 @@ use lib.Dec.{leb}
 use lib.ListN.{length, getD, drop, length-drop}
 use lib.Seq.{drop-drop, drop-length, getD-drop}
 use Rattle.fields.specs.Lists.{filter}
-use Rattle.fields.specs.Tag.{between}
+use Rattle.tags.specs.Tag.{between}
 use Rattle.fields.specs.Field.{Field, Fields, Placed, fields, tagOf, lengthOf, whole, after, nth, nothing, front, tag, row, fieldsFrom, placeFrom, from, fromNth, size, placed, placedFrom}
 use Rattle.fields.specs.Field.Field.{field}
 use Rattle.fields.specs.Field.Fields.{end, next}

@@ -6,7 +6,7 @@ use mathlib.Core.List.{List, [], _∷_}
 use borrow.Author.Tests.{eqb-true, eqb-false, eq-eqb, ne-eqb}
 use lib.Dec.{eqb}
 use Rattle.fields.specs.Lists.{sameBytes}
-use Rattle.fields.proofs.Bools.{and-left, and-right}
+use Rattle.tags.proofs.Bools.{and-left, and-right}
 
 -- byte by byte: the first are equal numbers, and the rest is equal
 pub bytes-equal : (x y : List ℕ) → sameBytes x y ≡ true → x ≡ y

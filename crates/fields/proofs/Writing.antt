@@ -4,7 +4,7 @@ use Prim.Native.String.{String}
 use mathlib.Core.List.{List, [], _∷_, _++_}
 use lib.ListN.{length}
 use Rattle.fields.specs.Lists.{bytes}
-use Rattle.fields.specs.Tag.{Name, TypeName, Integer, Identifier, Not}
+use Rattle.tags.specs.Tag.{Name, TypeName, Integer, Identifier, Not}
 
 -- a field: its tag, the two bytes of its length, its content
 abbrev pub write : ℕ → List ℕ → List ℕ

@@ -2,7 +2,7 @@
 use super::bytes::byte_at;
 use super::bytes::keep;
 use super::bytes::skip;
-use super::tag::is_composite;
+use tags::is_composite;
 ghost use mathlib.Core.Path.{_≡_};
 ghost use Prim.Native.Nat.{_+_, _*_, _<_, _-_};
 ghost use lib.ListN.{take, drop, length};

@@ -3,4 +3,3 @@ pub mod bytes;
 pub mod cursor;
 pub mod front;
 pub mod table;
-pub mod tag;

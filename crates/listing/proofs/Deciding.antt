@@ -7,7 +7,7 @@ use native.Mathlib.Omega.{arith}
 use lib.ListN.{length, getD, take, drop, length-take}
 use lib.Seq.{take-all, take-suc}
 use Rattle.fields.specs.Lists.{numbered}
-use Rattle.fields.specs.Tag.{Entry}
+use Rattle.tags.specs.Tag.{Entry}
 use Rattle.fields.specs.Field.{Fields, fields, whole, fromNth}
 use Rattle.questions.specs.Model.{entries}
 use Rattle.questions.specs.Shown.{shown}

@@ -7,7 +7,7 @@ use native.Mathlib.Omega.{arith}
 use mir.Syntax.{w64}
 use mir.Val.{Fits}
 use lib.ListN.{length, take, drop}
-use Rattle.fields.specs.Tag.{Entry}
+use Rattle.tags.specs.Tag.{Entry}
 use Rattle.fields.specs.Field.{fields, whole, after, from, fromNth}
 use Rattle.questions.specs.Model.{entries}
 use Rattle.questions.specs.Questions.{passes, fails, askFile}

@@ -11,7 +11,7 @@ use lib.Dec.{leb, ltb}
 use lib.ListN.{length, getD, drop, List·getD-map}
 use lib.Seq.{getD-drop}
 use Rattle.fields.specs.Lists.{any, sameBytes, filter}
-use Rattle.fields.specs.Tag.{State, Entry, Call, isExpression, between}
+use Rattle.tags.specs.Tag.{State, Entry, Call, isExpression, between}
 use Rattle.fields.specs.Field.{Field, Fields, Placed, fields, nothing, tag, front, size, sizes, placed, placedFrom}
 use Rattle.fields.specs.Field.Field.{field}
 use Rattle.fields.specs.Field.Fields.{end, next}

@@ -5,7 +5,7 @@ use native.Mathlib.Omega.{arith}
 use mathlib.Core.Path.{_≡_, _∙_, fun-ext}
 use mathlib.Core.Bool.{Bool, true, false}
 use borrow.Author.Tests.{le-leb}
-use Rattle.fields.specs.Tag.{composite, isWrapper}
+use Rattle.tags.specs.Tag.{composite, isWrapper}
 use Rattle.fields.specs.Field.{Field}
 use Rattle.fields.specs.Field.Field.{field}
 use Rattle.walking.specs.Walking.{peel, peelFirst, present}

@@ -8,7 +8,7 @@ use mathlib.Core.Option.{Option, none, some}
 use native.Mathlib.Omega.{arith}
 use lib.ListN.{length, getD}
 use Rattle.fields.specs.Lists.{any, find, removeFirst}
-use Rattle.fields.proofs.Bools.{and-left}
+use Rattle.tags.proofs.Bools.{and-left}
 use Rattle.matching.specs.Numbers.{chosenBy, firstFrom, downFrom}
 
 -- The first number that passes

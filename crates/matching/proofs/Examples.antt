@@ -5,7 +5,7 @@ use mathlib.Core.Path.{_≡_, refl}
 use mathlib.Core.List.{List, [], _∷_, _++_, map, flatMap}
 use mathlib.Core.Option.{none, some}
 use Rattle.fields.specs.Lists.{any, all, filter, find, removeFirst, position, numbered, sameBytes, bytes, known}
-use Rattle.fields.specs.Tag.{State, Entry, Parameter, Guard, AddTo, SubtractFrom, ExpressionStatement, InAsset, Caller, Date, Member, Call, Checked, Wrapping, Eq, Ge, Sub, Mul, Div, composite, isExpression, isStatement, isWrapper, isAssign}
+use Rattle.tags.specs.Tag.{State, Entry, Parameter, Guard, AddTo, SubtractFrom, ExpressionStatement, InAsset, Caller, Date, Member, Call, Checked, Wrapping, Eq, Ge, Sub, Mul, Div, composite, isExpression, isStatement, isWrapper, isAssign}
 use Rattle.fields.specs.Field.{Field, Fields, fields, fieldsTo, front, nth, row, fieldsFrom, size, sizes, placed, placedFrom}
 use Rattle.fields.proofs.Writing.{write, word, name, typeName, integer, identifier}
 use Rattle.questions.specs.Model.{entries, params, body, genesis, stateNames}

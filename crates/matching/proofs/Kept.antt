@@ -13,7 +13,7 @@ use lib.ListN.{length, getD, set, length-set, length-replicate, getD-replicate, 
 use lib.Seq.{set-out, getD-set-same, getD-set-other}
 use Rattle.fields.specs.Lists.{any, find, removeFirst}
 use Rattle.fields.specs.Field.{Field, Fields, fields}
-use Rattle.fields.proofs.Bools.{and-left}
+use Rattle.tags.proofs.Bools.{and-left}
 use Rattle.matching.specs.Matching.{Backing, Marks, backings, start}
 use Rattle.matching.specs.Numbers.{chosenBy, firstFrom, downFrom, markIs}
 use Rattle.matching.specs.Standing.{freeAt, takenAt, usedAt, amounts, marksOf, Stands, allFree, without, withUsed}

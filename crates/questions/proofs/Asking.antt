@@ -10,7 +10,7 @@ use borrow.Author.Tests.{le-leb, lt-leb, leb-true, leb-false, lt-ltb, le-ltb, lt
 use lib.Dec.{leb, ltb}
 use lib.ListN.{length, take, drop}
 use Rattle.fields.specs.Lists.{all, known}
-use Rattle.fields.specs.Tag.{isExpression, isText, composite}
+use Rattle.tags.specs.Tag.{isExpression, isText, composite}
 use Rattle.fields.specs.Field.{Field, Fields, fields, fieldWith, tagOf, lengthOf, whole, content, after, front, tag, size}
 use Rattle.fields.specs.Field.Fields.{end, next}
 use Rattle.fields.specs.Cursor.{partAt}
@@ -21,7 +21,7 @@ use Rattle.fields.proofs.Reading.{fields-next, fields-end, front-whole, content
 use Rattle.fields.proofs.Places.{front-size, content-length}
 use Rattle.fields.proofs.Parts.{tag-front}
 use Rattle.fields.proofs.Steps.{PartFound, part-is, cut-is, end-is}
-use Rattle.fields.proofs.Below.{holdsBelow, implies, implied}
+use Rattle.tags.proofs.Below.{holdsBelow, implies, implied}
 use Rattle.questions.specs.Grammar.{grammar, slotsIn, slotsOf, advance, complete}
 use Rattle.questions.specs.Slots.{slotList, leftBy}
 use Rattle.questions.specs.Questions.{Asked, _andThen_, ask, contentAllowed, depthInside, askField, askFields}

@@ -4,7 +4,7 @@ use mathlib.Core.Path.{_≡_, refl}
 use mathlib.Core.List.{List, [], _∷_, _++_, map}
 use lib.ListN.{replicate}
 use Rattle.fields.specs.Lists.{any, all, filter, sameBytes, known}
-use Rattle.fields.specs.Tag.{State, Genesis, Entry, Parameter, Limits, Denies, Guard, Let, Emit, Set, ExpressionStatement, Name, TypeName, Integer, Date, String, Identifier, Caller, InAsset, Member, Call, Eq, isItem, isClause, isStatement, isExpression, isText, composite}
+use Rattle.tags.specs.Tag.{State, Genesis, Entry, Parameter, Limits, Denies, Guard, Let, Emit, Set, ExpressionStatement, Name, TypeName, Integer, Date, String, Identifier, Caller, InAsset, Member, Call, Eq, isItem, isClause, isStatement, isExpression, isText, composite}
 use Rattle.fields.specs.Field.{fields, fieldsTo, nth, row, fieldsFrom, size, sizes, placed, placedFrom}
 use Rattle.fields.proofs.Writing.{write, word, name, typeName, integer, identifier, times, nots}
 use Rattle.questions.specs.Model.{states, entries}

@@ -11,10 +11,10 @@ use lib.Dec.{eqb, leb}
 use lib.ListN.{length, take, drop, length-drop}
 use lib.Seq.{drop-drop}
 use Rattle.fields.specs.Lists.{any, filter, sameBytes}
-use Rattle.fields.specs.Tag.{State, between}
+use Rattle.tags.specs.Tag.{State, between}
 use Rattle.fields.specs.Field.{Field, Fields, Placed, fields, tagOf, lengthOf, whole, after, front, tag, size, placed, placedFrom, row, fieldsFrom}
 use Rattle.fields.specs.Field.Fields.{end, next}
-use Rattle.fields.proofs.Ranges.{between-one}
+use Rattle.tags.proofs.Ranges.{between-one}
 use Rattle.fields.proofs.Reading.{fields-next, fields-end}
 use Rattle.fields.proofs.Places.{front-size}
 use Rattle.fields.proofs.Parts.{tag-front}

@@ -6,8 +6,8 @@ use mathlib.Core.List.{List, [], _∷_}
 use borrow.Author.Tests.{le-leb, lt-leb, eq-eqb, ne-eqb}
 use lib.Dec.{leb, eqb}
 use Rattle.fields.specs.Lists.{sameBytes}
-use Rattle.fields.specs.Tag.{isExpression, isStatement, isAssign, isClause}
-use Rattle.fields.proofs.Below.{holdsBelow, implies, implied}
+use Rattle.tags.specs.Tag.{isExpression, isStatement, isAssign, isClause}
+use Rattle.tags.proofs.Below.{holdsBelow, implies, implied}
 use Rattle.fields.proofs.Texts.{bytes-equal}
 use Rattle.questions.specs.Grammar.{grammar, slotsIn, slotsOf}
 use Rattle.questions.specs.Slots.{upToZero}

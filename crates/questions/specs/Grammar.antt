@@ -5,7 +5,7 @@ use mathlib.Core.List.{List, [], _∷_}
 use mathlib.Core.Option.{Option, none, some}
 use lib.Dec.{leb, eqb}
 use Rattle.fields.specs.Lists.{all}
-use Rattle.fields.specs.Tag.{Name, TypeName, Parameter, between, isItem, isClause, isStatement, isExpression}
+use Rattle.tags.specs.Tag.{Name, TypeName, Parameter, between, isItem, isClause, isStatement, isExpression}
 
 -- the classes of tags that a part may have
 abbrev pub name : ℕ

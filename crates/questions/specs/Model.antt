@@ -1,7 +1,7 @@
 -- The model that a file carries: its state fields, genesis statements and entries, and the parts of an entry.
 use Prim.Native.Nat.{ℕ}
 use mathlib.Core.List.{List, map}
-use Rattle.fields.specs.Tag.{State, Genesis, Entry, Parameter, Limits, Denies, Guard, ExpressionStatement}
+use Rattle.tags.specs.Tag.{State, Genesis, Entry, Parameter, Limits, Denies, Guard, ExpressionStatement}
 use Rattle.fields.specs.Field.{Field, Fields, Placed, text, parts, part, fieldsFrom, placedFrom}
 
 -- the name of a state field, an entry or a parameter

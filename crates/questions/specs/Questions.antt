@@ -6,7 +6,7 @@ use mathlib.Core.Option.{Option, none, some}
 use lib.Dec.{leb, eqb}
 use lib.ListN.{length, drop}
 use Rattle.fields.specs.Lists.{any, all, sameBytes, known}
-use Rattle.fields.specs.Tag.{between, isExpression, isText}
+use Rattle.tags.specs.Tag.{between, isExpression, isText}
 use Rattle.fields.specs.Field.{Field, Fields, Placed, fields, tag, size}
 use Rattle.fields.specs.Field.Field.{field}
 use Rattle.fields.specs.Field.Fields.{end, next}

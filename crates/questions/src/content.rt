@@ -1,10 +1,10 @@
 // Question 5: what a text or an empty field may hold.
-use fields::tag::INTEGER;
-use fields::tag::STRING;
-use fields::tag::is_text;
+use tags::INTEGER;
+use tags::STRING;
+use tags::is_text;
 ghost use mathlib.Core.Path.{_≡_};
 ghost use Rattle.fields.specs.Lists.{all};
-ghost use Rattle.fields.specs.Tag.{between};
+ghost use Rattle.tags.specs.Tag.{between};
 ghost use Rattle.questions.specs.Questions.{contentAllowed};
 
 // Whether every byte is from 20 to 7E.

@@ -3,7 +3,7 @@ use super::check::Answer;
 use super::check::check_form;
 use super::names::check_names;
 use fields::front::nth_from;
-use fields::tag::ENTRY;
+use tags::ENTRY;
 ghost use mathlib.Core.Path.{_≡_};
 ghost use Rattle.fields.specs.Field.{fields};
 ghost use Rattle.questions.specs.Model.{entries};

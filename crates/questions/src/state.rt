@@ -5,7 +5,7 @@ use fields::front::first_from;
 use fields::front::is_whole;
 use fields::front::part_of;
 use fields::front::text_of;
-use fields::tag::STATE;
+use tags::STATE;
 ghost use mathlib.Core.Path.{_≡_};
 ghost use Rattle.fields.specs.Lists.{any, sameBytes};
 ghost use Rattle.fields.specs.Field.{fields, front};

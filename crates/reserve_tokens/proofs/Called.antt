@@ -8,10 +8,10 @@ use borrow.Author.Tests.{not-true, not-false, leb-true}
 use lib.ListN.{length, getD, take, drop, drop-of-length-le}
 use lib.Seq.{length-take-le, getD-take}
 use Rattle.fields.specs.Lists.{any, filter, sameBytes}
-use Rattle.fields.specs.Tag.{Call}
+use Rattle.tags.specs.Tag.{Call}
 use Rattle.fields.specs.Table.{Listed}
 use Rattle.fields.specs.Field.{Field, lengthOf, whole, front, part, size, sizes}
-use Rattle.fields.proofs.Bools.{and-left}
+use Rattle.tags.proofs.Bools.{and-left}
 use Rattle.fields.proofs.Lists.{any-first}
 use Rattle.fields.proofs.Reading.{front-none}
 use Rattle.fields.proofs.Places.{front-size}

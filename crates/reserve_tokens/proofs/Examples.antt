@@ -5,7 +5,7 @@ use mathlib.Core.Path.{_≡_, refl}
 use mathlib.Core.Bool.{Bool, true, false}
 use mathlib.Core.List.{List, [], _∷_, _++_, map, flatMap}
 use Rattle.fields.specs.Lists.{any, all, filter, find, sameBytes, bytes, known}
-use Rattle.fields.specs.Tag.{State, Genesis, Entry, Parameter, Limits, Guard, Set, AddTo, SubtractFrom, ExpressionStatement, String as Text, Caller, InAsset, Member, Call, Checked, Wrapping, And, Eq, Ne, Add, Sub, Mul, composite, isAssign, isExpression, isStatement, isWrapper}
+use Rattle.tags.specs.Tag.{State, Genesis, Entry, Parameter, Limits, Guard, Set, AddTo, SubtractFrom, ExpressionStatement, String as Text, Caller, InAsset, Member, Call, Checked, Wrapping, And, Eq, Ne, Add, Sub, Mul, composite, isAssign, isExpression, isStatement, isWrapper}
 use Rattle.fields.specs.Field.{fields, fieldsTo, front, nth, row, fieldsFrom, size, sizes, placed, placedFrom, encode}
 use Rattle.fields.proofs.Writing.{write, word, name, typeName, integer, identifier}
 use Rattle.questions.specs.Model.{genesis, entries, params, body}

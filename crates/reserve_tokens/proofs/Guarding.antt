@@ -8,7 +8,7 @@ use borrow.Author.Tests.{ne-eqb}
 use lib.Dec.{eqb}
 use lib.ListN.{length}
 use Rattle.fields.specs.Lists.{filter, known}
-use Rattle.fields.specs.Tag.{Guard}
+use Rattle.tags.specs.Tag.{Guard}
 use Rattle.fields.specs.Field.{Field, fields, whole, after, front, parts, part, from, fieldsFrom}
 use Rattle.fields.proofs.Rows.{ahead, from-row}
 use Rattle.walking.specs.Walking.{guards}

@@ -7,7 +7,7 @@ use mathlib.Core.Option.{none, some}
 use borrow.Author.Tests.{eqb-true}
 use lib.Dec.{eqb}
 use Rattle.fields.specs.Lists.{any, filter, find}
-use Rattle.fields.specs.Tag.{Entry, SubtractFrom, Call, Add, Sub}
+use Rattle.tags.specs.Tag.{Entry, SubtractFrom, Call, Add, Sub}
 use Rattle.fields.specs.Field.{Field, Fields, tag, part, nothing, nth, fieldsFrom}
 use Rattle.fields.proofs.Rows.{placed-row}
 use Rattle.questions.specs.Model.{body, entries}

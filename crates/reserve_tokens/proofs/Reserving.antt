@@ -7,7 +7,7 @@ use mathlib.Core.List.{List, [], _∷_, _++_, map, flatMap}
 use native.Mathlib.Omega.{arith}
 use lib.ListN.{length}
 use Rattle.fields.specs.Lists.{filter, known}
-use Rattle.fields.specs.Tag.{Entry, Guard, ExpressionStatement, Call}
+use Rattle.tags.specs.Tag.{Entry, Guard, ExpressionStatement, Call}
 use Rattle.fields.specs.Table.{Listed}
 use Rattle.fields.specs.Field.{fields, whole, after, front, parts, fieldsFrom}
 use Rattle.fields.proofs.Reading.{after-less}

@@ -4,7 +4,7 @@ use mathlib.Core.Path.{_≡_, refl}
 use mathlib.Core.Bool.{Bool, true, false, cond, _&&_}
 use mathlib.Core.List.{List, [], _∷_, map}
 use Rattle.fields.specs.Lists.{all, filter, sameBytes}
-use Rattle.fields.specs.Tag.{State, Genesis}
+use Rattle.tags.specs.Tag.{State, Genesis}
 use Rattle.fields.specs.Field.{Field, fields, part, from, fieldsFrom}
 use Rattle.questions.specs.Model.{nameOf, genesis}
 use Rattle.walking.specs.Walking.{present}

@@ -5,7 +5,7 @@ use mathlib.Core.List.{List, [], _∷_, map, flatMap}
 use mathlib.Core.Option.{none, some}
 use lib.Dec.{eqb}
 use Rattle.fields.specs.Lists.{any, all, filter, find, sameBytes, known}
-use Rattle.fields.specs.Tag.{State, Set, SubtractFrom, Integer, Eq, Add, Sub, isAssign}
+use Rattle.tags.specs.Tag.{State, Set, SubtractFrom, Integer, Eq, Add, Sub, isAssign}
 use Rattle.fields.specs.Field.{Field, Fields, tag, text, part, fieldsFrom}
 use Rattle.questions.specs.Model.{nameOf, genesis, entries, body}
 use Rattle.walking.specs.Walking.{peel, withoutPlaces, exprs, guards, present, ident, receiver, debits}

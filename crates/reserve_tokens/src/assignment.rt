@@ -3,8 +3,8 @@
 use fields::bytes::same_bytes;
 use fields::front::part_of;
 use fields::front::tag_of;
-use fields::tag::SET;
-use fields::tag::is_assign;
+use tags::SET;
+use tags::is_assign;
 use walking::peel::peel;
 use walking::shape::ident;
 ghost use mathlib.Core.Path.{_≡_};

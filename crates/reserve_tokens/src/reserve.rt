@@ -13,7 +13,7 @@ use fields::bytes::same_bytes;
 use fields::front::after_front;
 use fields::front::is_whole;
 use fields::front::parts_of;
-use fields::tag::CALL;
+use tags::CALL;
 use tokens::ledger::funding_token;
 use tokens::set::tokens_differ;
 use walking::backer::asset_amount_backer;

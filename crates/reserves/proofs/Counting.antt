@@ -10,7 +10,7 @@ use borrow.Author.Tests.{not-true, not-false, eq-eqb, ne-eqb, leb-true}
 use lib.Dec.{eqb}
 use lib.ListN.{length, drop, length-append, length-drop, length-map}
 use Rattle.fields.specs.Lists.{any, sameBytes}
-use Rattle.fields.specs.Tag.{State, Guard, isWrapper}
+use Rattle.tags.specs.Tag.{State, Guard, isWrapper}
 use Rattle.fields.specs.Table.{Listed, Room}
 use Rattle.fields.specs.Field.{Field, Fields, Placed, fields, lengthOf, whole, front, tag, parts, part, nth, nothing, size, sizes, fieldsFrom, placed, placedParts}
 use Rattle.fields.specs.Field.Field.{field}

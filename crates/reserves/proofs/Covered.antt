@@ -8,11 +8,11 @@ use mathlib.Core.Option.{some}
 use lib.Dec.{eqb}
 use lib.ListN.{length, getD, drop}
 use Rattle.fields.specs.Lists.{any, filter, find, position, sameBytes, known}
-use Rattle.fields.specs.Tag.{Guard, between}
+use Rattle.tags.specs.Tag.{Guard, between}
 use Rattle.fields.specs.Field.{Field, Fields, fields, front, tag, parts, part, size, row, fieldsFrom, placed}
 use Rattle.fields.specs.Field.Fields.{end, next}
 use Rattle.fields.proofs.Lists.{Every}
-use Rattle.fields.proofs.Ranges.{between-one}
+use Rattle.tags.proofs.Ranges.{between-one}
 use Rattle.fields.proofs.Texts.{bytes-equal, bytes-same}
 use Rattle.fields.proofs.Inside.{Stands, parts-stand}
 use Rattle.questions.specs.Model.{stateNames, body}

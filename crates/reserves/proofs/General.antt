@@ -7,7 +7,7 @@ use mathlib.Core.Option.{none}
 use native.Mathlib.Omega.{arith}
 use lib.ListN.{length}
 use Rattle.fields.specs.Lists.{any, find, filter, position}
-use Rattle.fields.specs.Tag.{between}
+use Rattle.tags.specs.Tag.{between}
 use Rattle.fields.specs.Field.{Field, Fields, tag, size, sizes, row, fieldsFrom}
 use Rattle.fields.specs.Field.Field.{field}
 use Rattle.fields.specs.Field.Fields.{end, next}

@@ -9,7 +9,7 @@ use borrow.Author.Tests.{leb-true, eqb-true}
 use lib.Dec.{eqb}
 use lib.ListN.{length}
 use Rattle.fields.specs.Lists.{any, sameBytes, bytes}
-use Rattle.fields.specs.Tag.{Member, Identifier, isExpression}
+use Rattle.tags.specs.Tag.{Member, Identifier, isExpression}
 use Rattle.fields.specs.Table.{Listed}
 use Rattle.fields.specs.Field.{Field, Fields, lengthOf, whole, front, tag, text, part, nth, size, sizes}
 use Rattle.fields.specs.Field.Field.{field}

@@ -6,7 +6,7 @@ use mathlib.Core.List.{List, [], _∷_, flatMap}
 use lib.Dec.{eqb}
 use lib.ListN.{length, take}
 use Rattle.fields.specs.Lists.{any, position, sameBytes}
-use Rattle.fields.specs.Tag.{Guard}
+use Rattle.tags.specs.Tag.{Guard}
 use Rattle.fields.specs.Field.{Field, Fields, Placed, fields, tag, part, placedParts}
 use Rattle.questions.specs.Model.{stateNames, body}
 use Rattle.walking.specs.Table.{placedAt}

@@ -6,7 +6,7 @@ use mathlib.Core.List.{List, map}
 use lib.Dec.{eqb}
 use lib.ListN.{length, take, drop}
 use Rattle.fields.specs.Lists.{any, filter}
-use Rattle.fields.specs.Tag.{Member}
+use Rattle.tags.specs.Tag.{Member}
 use Rattle.fields.specs.Field.{Field, front, tag}
 use Rattle.walking.specs.Walking.{walk, withoutPlaces}
 use Rattle.tokens.specs.Tokens.{isInflow}

@@ -5,7 +5,7 @@ use mathlib.Core.List.{List, [], map}
 use mathlib.Core.Option.{Option}
 use lib.Dec.{eqb}
 use Rattle.fields.specs.Lists.{any, filter, find, sameBytes, known}
-use Rattle.fields.specs.Tag.{SubtractFrom, Wrapping, Lt, Gt, Le, Ge, Sub}
+use Rattle.tags.specs.Tag.{SubtractFrom, Wrapping, Lt, Gt, Le, Ge, Sub}
 use Rattle.fields.specs.Field.{Field, Fields, tag, part, nothing}
 use Rattle.questions.specs.Model.{stateNames, body}
 use Rattle.walking.specs.Walking.{peel, walk, withoutPlaces, guards, ident}

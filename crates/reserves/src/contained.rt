@@ -3,8 +3,8 @@
 use fields::bytes::skip;
 use fields::front::tag_of;
 use fields::table::number_at;
-use fields::tag::MEMBER;
-use fields::tag::is_expression;
+use tags::MEMBER;
+use tags::is_expression;
 use tokens::inflow::is_inflow;
 use walking::parameters::has_asset_parameter;
 use walking::walk::list_expression;

@@ -2,16 +2,16 @@
 // A guard that says r >, >= amount or amount <, <= r. A guard's expression is the part of the file that starts with it.
 use fields::front::part_of;
 use fields::front::tag_of;
-use fields::tag::GE;
-use fields::tag::GT;
-use fields::tag::LE;
-use fields::tag::LT;
+use tags::GE;
+use tags::GT;
+use tags::LE;
+use tags::LT;
 use walking::peel::peel;
 use walking::shape::ident;
 ghost use mathlib.Core.Path.{_≡_};
 ghost use mathlib.Core.Bool.{_||_};
 ghost use lib.Dec.{eqb};
-ghost use Rattle.fields.specs.Tag.{Gt, Ge, Lt, Le};
+ghost use Rattle.tags.specs.Tag.{Gt, Ge, Lt, Le};
 ghost use Rattle.fields.specs.Field.{front};
 ghost use Rattle.reserves.specs.Reserves.{guardedField, guardedAmount};
 

@@ -9,7 +9,7 @@ use borrow.Author.Tests.{leb-true, leb-false}
 use lib.Dec.{leb}
 use lib.ListN.{length, drop, length-drop, drop-of-length-le}
 use lib.Seq.{length-sets, drop-drop, drop-length}
-use Rattle.fields.specs.Tag.{Entry}
+use Rattle.tags.specs.Tag.{Entry}
 use Rattle.fields.specs.Table.{Listed}
 use Rattle.fields.specs.Field.{Field, Placed, fields, lengthOf, whole, after, front, size, placeFrom, from}
 use Rattle.fields.proofs.Places.{front-size}

@@ -5,7 +5,7 @@ use mathlib.Core.Path.{_≡_, refl}
 use mathlib.Core.List.{List, [], _∷_, _++_, map, flatMap}
 use lib.ListN.{length}
 use Rattle.fields.specs.Lists.{any, all, filter, sameBytes, bytes, known}
-use Rattle.fields.specs.Tag.{Entry, Parameter, Limits, Denies, Guard, ExpressionStatement, InAsset, Caller, Member, Call, Checked, Wrapping, Not, Or, And, Eq, Ne, Lt, composite, isExpression, isStatement, isWrapper}
+use Rattle.tags.specs.Tag.{Entry, Parameter, Limits, Denies, Guard, ExpressionStatement, InAsset, Caller, Member, Call, Checked, Wrapping, Not, Or, And, Eq, Ne, Lt, composite, isExpression, isStatement, isWrapper}
 use Rattle.fields.specs.Field.{fields, fieldsTo, front, nth, row, fieldsFrom, size, sizes, placed, placedFrom, placeOf}
 use Rattle.fields.proofs.Writing.{write, name, typeName, identifier}
 use Rattle.questions.specs.Model.{entries, params}

@@ -9,7 +9,7 @@ use borrow.Author.Tests.{not-true, not-false, leb-true}
 use lib.ListN.{length, getD, take, drop, length-drop, drop-of-length-le}
 use lib.Seq.{length-take-le, getD-take, length-sets}
 use Rattle.fields.specs.Lists.{any, filter, sameBytes}
-use Rattle.fields.specs.Tag.{Call}
+use Rattle.tags.specs.Tag.{Call}
 use Rattle.fields.specs.Table.{Listed}
 use Rattle.fields.specs.Field.{Field, Placed, lengthOf, whole, front, part, size, sizes}
 use Rattle.fields.proofs.Lists.{Every, chosen}

@@ -8,10 +8,10 @@ use borrow.Author.Tests.{leb-true}
 use lib.Dec.{eqb}
 use lib.ListN.{length, getD, take, drop, length-drop}
 use Rattle.fields.specs.Lists.{any, sameBytes}
-use Rattle.fields.specs.Tag.{Call}
+use Rattle.tags.specs.Tag.{Call}
 use Rattle.fields.specs.Table.{Listed}
 use Rattle.fields.specs.Field.{Field, lengthOf, whole, front, tag, size, sizes}
-use Rattle.fields.proofs.Bools.{and-left}
+use Rattle.tags.proofs.Bools.{and-left}
 use Rattle.fields.proofs.Lists.{any-first}
 use Rattle.fields.proofs.Reading.{front-none}
 use Rattle.fields.proofs.Places.{front-size}

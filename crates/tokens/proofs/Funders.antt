@@ -7,7 +7,7 @@ use native.Mathlib.Omega.{arith}
 use borrow.Author.Tests.{not-true, not-false}
 use lib.ListN.{length}
 use Rattle.fields.specs.Lists.{filter, known}
-use Rattle.fields.specs.Tag.{Entry}
+use Rattle.tags.specs.Tag.{Entry}
 use Rattle.fields.specs.Table.{Listed}
 use Rattle.fields.specs.Field.{Field, fields, whole, after, front, fieldsFrom, placedFrom}
 use Rattle.fields.proofs.Lists.{filter-append}

@@ -9,7 +9,7 @@ use lib.Dec.{eqb}
 use lib.ListN.{length, getD, take, drop, length-drop, drop-of-length-le}
 use lib.Seq.{length-take-le, getD-take, length-sets, drop-drop}
 use Rattle.fields.specs.Lists.{all, filter, known}
-use Rattle.fields.specs.Tag.{Eq}
+use Rattle.tags.specs.Tag.{Eq}
 use Rattle.fields.specs.Table.{Listed}
 use Rattle.fields.specs.Field.{Placed, front}
 use Rattle.fields.proofs.Lists.{Every}

@@ -10,7 +10,7 @@ use lib.Dec.{eqb, leb}
 use lib.ListN.{length, take, drop}
 use lib.Seq.{take-length, drop-drop, drop-length}
 use Rattle.fields.specs.Lists.{all, filter, known, sameBytes}
-use Rattle.fields.specs.Tag.{InAsset, Identifier, Entry, Eq, between, isWrapper}
+use Rattle.tags.specs.Tag.{InAsset, Identifier, Entry, Eq, between, isWrapper}
 use Rattle.fields.specs.Field.{Field, Fields, Placed, fields, front, tag, text, parts, part, nth, nothing, size, placeOf, placed, placedFrom}
 use Rattle.fields.specs.Field.Field.{field}
 use Rattle.fields.specs.Field.Fields.{end, next}

@@ -3,7 +3,7 @@ use Prim.Native.Nat.{ℕ}
 use mathlib.Core.Bool.{cond}
 use mathlib.Core.List.{List, [], _∷_}
 use Rattle.fields.specs.Lists.{filter, known}
-use Rattle.fields.specs.Tag.{Entry}
+use Rattle.tags.specs.Tag.{Entry}
 use Rattle.fields.specs.Field.{Field, fields, whole, after, front, fieldsFrom}
 use Rattle.tokens.specs.Tokens.{single, tokenNamed, funds}
 use Rattle.conditions.specs.Table.{conditionAt}

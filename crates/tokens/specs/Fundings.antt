@@ -8,7 +8,7 @@ use mathlib.Core.List.{List, [], _∷_, map, flatMap}
 use lib.Dec.{eqb, leb}
 use lib.ListN.{length, take, drop}
 use Rattle.fields.specs.Lists.{sameBytes, known}
-use Rattle.fields.specs.Tag.{Call}
+use Rattle.tags.specs.Tag.{Call}
 use Rattle.fields.specs.Field.{Field, Placed, fields, front, part}
 use Rattle.questions.specs.Model.{entries}
 use Rattle.walking.specs.Walking.{peel, receiver, bodyExprs}

@@ -5,7 +5,7 @@ use mathlib.Core.Bool.{cond}
 use mathlib.Core.List.{List, [], _∷_, map, flatMap}
 use lib.Dec.{eqb}
 use Rattle.fields.specs.Lists.{filter, known}
-use Rattle.fields.specs.Tag.{InAsset}
+use Rattle.tags.specs.Tag.{InAsset}
 use Rattle.fields.specs.Field.{Field, Fields, Placed, tag, parts, part, placeOf}
 use Rattle.questions.specs.Model.{entries}
 use Rattle.walking.specs.Walking.{peel, peelPlace}

@@ -4,7 +4,7 @@ use mathlib.Core.Bool.{Bool, cond, _&&_, not}
 use mathlib.Core.List.{List, [], _∷_, map, flatMap}
 use lib.Dec.{eqb}
 use Rattle.fields.specs.Lists.{any, all, filter, sameBytes, bytes, known}
-use Rattle.fields.specs.Tag.{InAsset, Eq}
+use Rattle.tags.specs.Tag.{InAsset, Eq}
 use Rattle.fields.specs.Field.{Field, Fields, tag, part}
 use Rattle.questions.specs.Model.{entries}
 use Rattle.walking.specs.Walking.{peel, withoutPlaces, exprs, ident, method, receiver, assetAmountBacker, assetParams}

@@ -8,7 +8,7 @@ use borrow.Author.Tests.{le-leb, lt-leb, lt-ltb, le-ltb}
 use lib.ListN.{length, getD, take, drop, length-take, length-drop, drop-of-length-le}
 use lib.Seq.{take-all, getD-take, getD-drop, drop-cons}
 use Rattle.fields.specs.Lists.{filter}
-use Rattle.fields.specs.Tag.{Entry}
+use Rattle.tags.specs.Tag.{Entry}
 use Rattle.fields.specs.Field.{Field, Fields, Placed, fields, nothing, whole, front, placed, placedFrom}
 use Rattle.fields.proofs.Lists.{Every, every-filter}
 use Rattle.fields.proofs.Inside.{Stands, row-stands}

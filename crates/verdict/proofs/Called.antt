@@ -10,7 +10,7 @@ use lib.Dec.{eqb}
 use lib.ListN.{length, getD, set, take, drop, length-set, length-map, List·getD-map}
 use lib.Seq.{sets, getD-set-same, getD-set-other}
 use Rattle.fields.specs.Lists.{filter}
-use Rattle.fields.specs.Tag.{Call}
+use Rattle.tags.specs.Tag.{Call}
 use Rattle.fields.specs.Field.{Field, Placed, nothing, front, tag}
 use Rattle.fields.proofs.Lists.{Every, every-filter, filter-first}
 use Rattle.fields.specs.Table.{Listed}

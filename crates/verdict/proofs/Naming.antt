@@ -10,7 +10,7 @@ use mir.Val.{Fits}
 use lib.ListN.{length, getD, take, drop, length-map, length-append, length-take, length-drop}
 use lib.Seq.{sets, sets-eq, length-sets, take-at, length-take-le}
 use Rattle.fields.specs.Lists.{filter}
-use Rattle.fields.specs.Tag.{Parameter}
+use Rattle.tags.specs.Tag.{Parameter}
 use Rattle.fields.specs.Table.{Listed}
 use Rattle.fields.specs.Field.{Field, Fields, Placed, fields, lengthOf, whole, after, front, tag, parts, sizes, placed, placedFrom, from}
 use Rattle.fields.proofs.Lists.{Every, every-filter}

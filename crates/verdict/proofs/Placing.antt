@@ -10,7 +10,7 @@ use mir.Val.{Fits}
 use lib.Dec.{leb}
 use lib.ListN.{length, getD, take, drop, length-drop, length-map, drop-of-length-le}
 use lib.Seq.{drop-cons}
-use Rattle.fields.specs.Tag.{Call}
+use Rattle.tags.specs.Tag.{Call}
 use Rattle.fields.specs.Field.{Field, Fields, Placed, fields, nothing, whole, lengthOf, front, parts, size, sizes}
 use Rattle.fields.proofs.Reading.{front-none}
 use Rattle.fields.proofs.Places.{front-size}

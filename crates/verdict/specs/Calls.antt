@@ -4,7 +4,7 @@ use mathlib.Core.Bool.{Bool, cond}
 use mathlib.Core.List.{List, [], _∷_, map, flatMap}
 use lib.ListN.{drop}
 use Rattle.fields.specs.Lists.{filter}
-use Rattle.fields.specs.Tag.{Parameter}
+use Rattle.tags.specs.Tag.{Parameter}
 use Rattle.fields.specs.Field.{Field, Fields, Placed, front, placedFrom}
 use Rattle.walking.specs.Walking.{isDebit, isPayout, isAssetParameter}
 

@@ -4,7 +4,7 @@ use mathlib.Core.Path.{_≡_}
 use mathlib.Core.List.{List, map}
 use lib.Dec.{leb}
 use lib.ListN.{length, take, drop}
-use Rattle.fields.specs.Tag.{Call}
+use Rattle.tags.specs.Tag.{Call}
 use Rattle.fields.specs.Field.{Fields, Placed, front}
 use Rattle.fields.specs.Lists.{filter}
 use Rattle.questions.specs.Questions.{ask, atMost, _andThen_}

@@ -7,7 +7,7 @@ use fields::front::is_whole;
 use fields::front::parts_of;
 use fields::table::note;
 use fields::table::number_at;
-use fields::tag::PARAMETER;
+use tags::PARAMETER;
 use walking::parameters::is_asset_parameter;
 use walking::shape::is_debit;
 use walking::shape::is_payout;

@@ -10,7 +10,7 @@ use borrow.Author.Tests.{leb-true, le-leb}
 use lib.Dec.{eqb, leb}
 use lib.ListN.{length, drop, length-drop}
 use Rattle.fields.specs.Lists.{any, filter}
-use Rattle.fields.specs.Tag.{isExpression, isStatement}
+use Rattle.tags.specs.Tag.{isExpression, isStatement}
 use Rattle.fields.specs.Field.{Field, Fields, Placed, lengthOf, whole, front, tag, parts, size, sizes, placed, placedParts}
 use Rattle.fields.specs.Field.Field.{field}
 use Rattle.fields.specs.Field.Fields.{end, next}

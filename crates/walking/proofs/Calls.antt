@@ -3,7 +3,7 @@ use mathlib.Core.Path.{_≡_, refl, sym}
 use mathlib.Core.Bool.{Bool, true, false}
 use lib.Dec.{eqb}
 use Rattle.fields.specs.Lists.{filter, sameBytes}
-use Rattle.fields.specs.Tag.{Call}
+use Rattle.tags.specs.Tag.{Call}
 use Rattle.fields.specs.Field.{Field, tag}
 use Rattle.fields.proofs.Lists.{filter-first}
 use Rattle.walking.specs.Walking.{method, isDebit, isPayout, exprs, debits, payouts}

@@ -7,7 +7,7 @@ use mathlib.Core.List.{List, [], _∷_, _++_, map, flatMap}
 use lib.ListN.{length}
 use lib.Seq.{sets}
 use Rattle.fields.specs.Lists.{filter, bytes, sameBytes}
-use Rattle.fields.specs.Tag.{Entry, Parameter, Limits, Guard, Let, Set, ExpressionStatement, Name, TypeName, Identifier, Caller, Not, Member, Call, Checked, Wrapping, Sub, Gt, composite, isExpression, isStatement, isWrapper}
+use Rattle.tags.specs.Tag.{Entry, Parameter, Limits, Guard, Let, Set, ExpressionStatement, Name, TypeName, Identifier, Caller, Not, Member, Call, Checked, Wrapping, Sub, Gt, composite, isExpression, isStatement, isWrapper}
 use Rattle.fields.specs.Field.{fields, fieldsTo, front, nth, nothing, tag, part, row, fieldsFrom, size, sizes, placed}
 use Rattle.fields.proofs.Writing.{write, name, typeName, identifier}
 use Rattle.questions.specs.Model.{params}

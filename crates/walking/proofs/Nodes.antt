@@ -8,9 +8,9 @@ use borrow.Author.Tests.{eqb-true, leb-true, not-true, not-false}
 use lib.Dec.{eqb}
 use lib.ListN.{length, take, drop}
 use Rattle.fields.specs.Lists.{bytes, sameBytes}
-use Rattle.fields.specs.Tag.{Member, Identifier, composite}
+use Rattle.tags.specs.Tag.{Member, Identifier, composite}
 use Rattle.fields.specs.Field.{tagOf, lengthOf, whole, content, front, tag, text, part}
-use Rattle.fields.proofs.Bools.{and-left, and-right}
+use Rattle.tags.proofs.Bools.{and-left, and-right}
 use Rattle.fields.proofs.Parts.{tag-front, tag-none, text-front}
 use Rattle.walking.specs.Walking.{ident, assetAmountBacker}
 use Rattle.walking.specs.Node.{nodeOf}

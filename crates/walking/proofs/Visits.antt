@@ -7,7 +7,7 @@ use native.Mathlib.Omega.{arith}
 use borrow.Author.Tests.{not-true, not-false}
 use lib.Dec.{eqb}
 use Rattle.fields.specs.Lists.{filter}
-use Rattle.fields.specs.Tag.{isExpression, isStatement}
+use Rattle.tags.specs.Tag.{isExpression, isStatement}
 use Rattle.fields.specs.Field.{Field, fields, front, nth, tag, parts, size, placed}
 use Rattle.fields.specs.Field.Field.{field}
 use Rattle.walking.specs.Walking.{walk, walkParts, stmtExprs}

@@ -6,7 +6,7 @@ use native.Mathlib.Omega.{arith}
 use native.Mathlib.Nat.{add-assoc}
 use lib.ListN.{length}
 use Rattle.fields.specs.Lists.{filter}
-use Rattle.fields.specs.Tag.{isExpression, isStatement}
+use Rattle.tags.specs.Tag.{isExpression, isStatement}
 use Rattle.fields.specs.Field.{Field, Fields, Placed, tag, parts, size, sizes, placed}
 use Rattle.fields.specs.Field.Field.{field}
 use Rattle.fields.specs.Field.Fields.{end, next}

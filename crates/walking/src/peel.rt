@@ -4,7 +4,7 @@ use fields::bytes::skip;
 use fields::front::is_whole;
 use fields::front::parts_of;
 use fields::front::tag_of;
-use fields::tag::is_wrapper;
+use tags::is_wrapper;
 ghost use mathlib.Core.Path.{_≡_};
 ghost use lib.ListN.{drop, length};
 ghost use Rattle.fields.specs.Field.{front};

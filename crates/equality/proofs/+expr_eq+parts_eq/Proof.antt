@@ -8,7 +8,7 @@ use Rattle.fields.proofs.front.after_front.Reads as after-front-reads
 use Rattle.fields.proofs.front.front_content.Reads as front-content-reads
 use Rattle.fields.proofs.front.front_tag.Reads as front-tag-reads
 use Rattle.fields.proofs.front.is_whole.Reads as is-whole-reads
-use Rattle.fields.proofs.tag.is_composite.Reads as is-composite-reads
+use Rattle.tags.proofs.is_composite.Reads as is-composite-reads
 use Rattle.equality.proofs.Comparing.{tags-differ, left-whole, parts-decide, texts-decide, Comparing, comparing-all, comparing-done, comparing-differ, comparing-on}
 use Rattle.equality.proofs.expr_eq.Reads as expr-eq
 use Rattle.equality.proofs.parts_eq.Reads as parts-eq

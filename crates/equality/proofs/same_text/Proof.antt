@@ -7,7 +7,7 @@ use borrow.Author.Needs.{needs}
 use borrow.Author.Tests.{eqb-true, ne-eqb}
 use lib.Dec.{eqb}
 use Rattle.fields.specs.Lists.{sameBytes}
-use Rattle.fields.specs.Tag.{Name, Integer, String, Identifier, Caller, Now}
+use Rattle.tags.specs.Tag.{Name, Integer, String, Identifier, Caller, Now}
 use Rattle.equality.specs.Equality.{strip, sameText}
 use Rattle.equality.proofs.same_text.Statement.{statement}
 use Rattle.equality.proofs.same_text.Tie as tie

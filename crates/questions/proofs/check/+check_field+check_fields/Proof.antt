@@ -11,8 +11,8 @@ use Rattle.questions.proofs.check.+check_field+check_fields.Lts-check_f
 use Rattle.questions.proofs.check.check_fields.Reads as check-fields
 use Rattle.questions.proofs.check.+check_field+check_fields.Lts-check_fields as check-fields-lts
 use Rattle.fields.proofs.cursor.Cursor.part.Reads as part-reads
-use Rattle.fields.proofs.tag.is_composite.Reads as is-composite-reads
-use Rattle.fields.proofs.tag.is_expression.Reads as is-expression-reads
+use Rattle.tags.proofs.is_composite.Reads as is-composite-reads
+use Rattle.tags.proofs.is_expression.Reads as is-expression-reads
 use Rattle.questions.proofs.check.depth_inside.Reads as depth-inside-reads
 use Rattle.questions.proofs.content.content_allowed.Reads as content-allowed-reads
 use Rattle.questions.proofs.grammar.Slots.advance.Reads as advance-reads

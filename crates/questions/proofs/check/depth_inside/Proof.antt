@@ -5,7 +5,7 @@ use mathlib.Core.Bool.{true, false}
 use native.Mathlib.Omega.{arith}
 use native.Mathlib.Numerals.{add-one}
 use borrow.Author.Needs.{needs}
-use Rattle.fields.specs.Tag.{isExpression}
+use Rattle.tags.specs.Tag.{isExpression}
 use Rattle.fields.proofs.Told.{told}
 use Rattle.questions.specs.Questions.{depthInside}
 use Rattle.questions.proofs.check.depth_inside.Statement.{statement}

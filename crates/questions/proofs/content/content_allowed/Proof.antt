@@ -7,8 +7,8 @@ use borrow.Author.Needs.{needs}
 use lib.Dec.{eqb, leb, eqb·suc-zero}
 use lib.ListN.{length}
 use Rattle.fields.specs.Lists.{all, known}
-use Rattle.fields.specs.Tag.{between, isText}
-use Rattle.fields.proofs.Bools.{and-true}
+use Rattle.tags.specs.Tag.{between, isText}
+use Rattle.tags.proofs.Bools.{and-true}
 use Rattle.fields.proofs.Places.{no-bytes}
 use Rattle.fields.proofs.Told.{told}
 use Rattle.questions.specs.Questions.{contentAllowed}

@@ -8,7 +8,7 @@ use borrow.Author.Needs.{needs}
 use borrow.Author.Tests.{not-true, not-false}
 use lib.ListN.{length, getD, drop, drop-of-length-le}
 use Rattle.fields.specs.Lists.{all}
-use Rattle.fields.specs.Tag.{between}
+use Rattle.tags.specs.Tag.{between}
 use Rattle.fields.proofs.Slices.{drop-step}
 use Rattle.questions.proofs.content.is_printable.Statement.{statement}
 use Rattle.questions.proofs.content.is_printable.Tie as tie

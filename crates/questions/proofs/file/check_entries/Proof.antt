@@ -6,7 +6,7 @@ use mathlib.Core.List.{List, [], _∷_}
 use native.Mathlib.Nat.{zero-add}
 use borrow.Author.Needs.{needs}
 use lib.ListN.{length, drop}
-use Rattle.fields.specs.Tag.{Entry}
+use Rattle.tags.specs.Tag.{Entry}
 use Rattle.fields.specs.Field.{Placed, fields, whole, fromNth, placedFrom}
 use Rattle.fields.proofs.Places.{no-bytes}
 use Rattle.fields.proofs.Rows.{restOf, nth-placed, nth-shorter, nth-whole}

@@ -7,7 +7,7 @@ use borrow.Author.Needs.{needs}
 use borrow.Author.Tests.{eq-eqb, ne-eqb}
 use lib.Dec.{eqb}
 use Rattle.fields.specs.Lists.{any, sameBytes}
-use Rattle.fields.specs.Tag.{State}
+use Rattle.tags.specs.Tag.{State}
 use Rattle.fields.specs.Field.{fields, front, tagOf}
 use Rattle.questions.specs.Model.{nameOf, stateNames}
 use Rattle.questions.proofs.Naming.{repeats}

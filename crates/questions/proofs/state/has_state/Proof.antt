@@ -6,7 +6,7 @@ use mathlib.Core.List.{List, [], _∷_, map}
 use borrow.Author.Needs.{needs}
 use lib.ListN.{length}
 use Rattle.fields.specs.Lists.{any, sameBytes}
-use Rattle.fields.specs.Tag.{State}
+use Rattle.tags.specs.Tag.{State}
 use Rattle.fields.specs.Field.{fields, whole, after, front, from, fieldsFrom}
 use Rattle.fields.proofs.Told.{told}
 use Rattle.fields.proofs.Rows.{ahead, from-row, from-less}

@@ -6,7 +6,7 @@ use mathlib.Core.List.{List}
 use borrow.Author.Needs.{needs}
 use borrow.Author.Tests.{not-true, not-false}
 use Rattle.fields.specs.Lists.{sameBytes}
-use Rattle.fields.specs.Tag.{isAssign}
+use Rattle.tags.specs.Tag.{isAssign}
 use Rattle.fields.specs.Field.{Field, front, tag, part}
 use Rattle.walking.specs.Walking.{ident}
 use Rattle.reserve_tokens.specs.ReserveTokens.{assigns}

@@ -1,7 +1,7 @@
 -- An entry that does not raise the field is passed over, and the first that does is still ahead.
 use borrow.Author.Needs.{needs}
 use lib.ListN.{length}
-use Rattle.fields.specs.Tag.{Entry}
+use Rattle.tags.specs.Tag.{Entry}
 use Rattle.fields.proofs.Told.{told}
 use Rattle.fields.proofs.Rows.{from-less}
 use Rattle.fields.proofs.Choosing.{Choosing, choosing-first, choosing-none, choosing-here, choosing-on}

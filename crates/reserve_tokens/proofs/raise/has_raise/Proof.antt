@@ -5,7 +5,7 @@ use mathlib.Core.Bool.{Bool, true, false, cond, _||_}
 use mathlib.Core.List.{List, [], _∷_}
 use borrow.Author.Needs.{needs}
 use Rattle.fields.specs.Lists.{any, filter}
-use Rattle.fields.specs.Tag.{Guard, ExpressionStatement}
+use Rattle.tags.specs.Tag.{Guard, ExpressionStatement}
 use Rattle.fields.specs.Field.{Field, fields, whole, front, parts, fieldsFrom}
 use Rattle.questions.specs.Model.{body}
 use Rattle.reserve_tokens.specs.Raising.{isRaise, raising, raisesFrom}

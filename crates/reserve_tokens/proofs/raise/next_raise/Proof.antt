@@ -5,7 +5,7 @@ use mathlib.Core.List.{List}
 use borrow.Author.Needs.{needs}
 use lib.ListN.{length}
 use Rattle.fields.specs.Lists.{filter}
-use Rattle.fields.specs.Tag.{Guard, ExpressionStatement}
+use Rattle.tags.specs.Tag.{Guard, ExpressionStatement}
 use Rattle.fields.specs.Field.{fields, after, fieldsFrom}
 use Rattle.reserve_tokens.specs.Raising.{isRaise, raisesFrom}
 use Rattle.reserve_tokens.proofs.raise.next_raise.Statement.{statement}

@@ -10,7 +10,7 @@ use lib.Dec.{leb}
 use lib.ListN.{length}
 use Rattle.fields.specs.Lists.{known, sameBytes}
 use Rattle.fields.specs.Field.{Fields}
-use Rattle.fields.proofs.Bools.{and-left, and-right}
+use Rattle.tags.proofs.Bools.{and-left, and-right}
 use Rattle.fields.proofs.Texts.{bytes-equal}
 use Rattle.tokens.specs.Tokens.{fundingToken}
 use Rattle.tokens.proofs.Agreeing.{is-known}

@@ -2,7 +2,7 @@
 use borrow.Author.Needs.{needs}
 use lib.ListN.{length}
 use Rattle.fields.specs.Lists.{all}
-use Rattle.fields.specs.Tag.{State}
+use Rattle.tags.specs.Tag.{State}
 use Rattle.fields.specs.Field.{fields}
 use Rattle.fields.proofs.Told.{told}
 use Rattle.fields.proofs.Rows.{from-less}

@@ -1,10 +1,11 @@
 -- Both tests, of which the one that fails decides.
 use Prim.Native.Nat.{ℕ}
-use mathlib.Core.Path.{_≡_, refl, _∙_}
-use mathlib.Core.Bool.{Bool, true, false, not, _&&_}
+use mathlib.Core.Path.{_≡_, sym, _∙_}
+use mathlib.Core.Bool.{Bool, true, false, not}
 use mathlib.Core.List.{List}
 use borrow.Author.Needs.{needs}
 use borrow.Author.Tests.{not-true, not-false}
+use Rattle.tags.proofs.Bools.{and-true, and-false}
 use Rattle.fields.specs.Lists.{any, sameBytes}
 use Rattle.fields.specs.Field.{Field, Fields, front}
 use Rattle.questions.specs.Model.{stateNames, body}
@@ -13,22 +14,14 @@ use Rattle.reserves.specs.Candidates.{counts}
 use Rattle.reserves.proofs.candidates.guard_counts.Statement.{statement}
 use Rattle.reserves.proofs.candidates.guard_counts.Tie as tie
 
-and-false : (a : Bool) → false ≡ a && false
-and-false true = refl
-and-false false = refl
-
-and-true : (a : Bool) → a ≡ a && true
-and-true true = refl
-and-true false = refl
-
 module _ (model : Fields) (entry g : Field) (n : List ℕ) (e : n ≡ guardedField g) (x : List ℕ) (i : front x ≡ guardedAmount g) (b : Bool) (f : b ≡ any (lowers (front x) n) (body entry)) where
   not-lowered : not b ≡ true → false ≡ counts model entry g
   unfolding counts
-  not-lowered h = rw (← e, ← i, ← f, not-true b h) (and-false (any (sameBytes n) (stateNames model)))
+  not-lowered h = rw (← e, ← i, ← f, not-true b h) (sym (and-false (any (sameBytes n) (stateNames model))))
 
   by-state : not b ≡ false → (r : Bool) → r ≡ any (sameBytes n) (stateNames model) → r ≡ counts model entry g
   unfolding counts
-  by-state h r k = k ∙ rw (← e, ← i, ← f, not-false b h) (and-true (any (sameBytes n) (stateNames model)))
+  by-state h r k = k ∙ rw (← e, ← i, ← f, not-false b h) (sym (and-true (any (sameBytes n) (stateNames model))))
 
 pub guard-counts-spec : {M : Type 1} → statement M
 guard-counts-spec =

@@ -9,7 +9,7 @@ use mir.Syntax.{w64}
 use mir.Val.{Fits}
 use lib.ListN.{length}
 use Rattle.fields.specs.Lists.{position, sameBytes}
-use Rattle.fields.specs.Tag.{State}
+use Rattle.tags.specs.Tag.{State}
 use Rattle.fields.specs.Field.{fields, whole, after, front, from}
 use Rattle.fields.proofs.Told.{told}
 use Rattle.fields.proofs.Reading.{after-less}

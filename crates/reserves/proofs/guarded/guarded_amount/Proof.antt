@@ -5,7 +5,7 @@ use mathlib.Core.Bool.{Bool, true, false, _||_}
 use mathlib.Core.List.{List, []}
 use lib.Dec.{eqb}
 use borrow.Author.Needs.{needs}
-use Rattle.fields.specs.Tag.{Gt, Ge, Lt, Le}
+use Rattle.tags.specs.Tag.{Gt, Ge, Lt, Le}
 use Rattle.fields.specs.Field.{Field, front, tag, part}
 use Rattle.fields.proofs.Reading.{front-none}
 use Rattle.walking.specs.Walking.{peel}

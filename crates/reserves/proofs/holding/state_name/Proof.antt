@@ -4,7 +4,7 @@ use mathlib.Core.Path.{_≡_, refl, ap, _∙_}
 use mathlib.Core.List.{List, [], _∷_, map}
 use lib.ListN.{getD}
 use borrow.Author.Needs.{needs}
-use Rattle.fields.specs.Tag.{State}
+use Rattle.tags.specs.Tag.{State}
 use Rattle.fields.specs.Field.{Field, fields, front, nth, nothing, fieldsFrom, fromNth}
 use Rattle.fields.proofs.Rows.{nth-of-row}
 use Rattle.questions.specs.Model.{nameOf, stateNames}

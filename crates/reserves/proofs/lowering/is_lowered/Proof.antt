@@ -6,7 +6,7 @@ use mathlib.Core.List.{List}
 use borrow.Author.Needs.{needs}
 use lib.ListN.{length}
 use Rattle.fields.specs.Lists.{any}
-use Rattle.fields.specs.Tag.{Guard, ExpressionStatement}
+use Rattle.tags.specs.Tag.{Guard, ExpressionStatement}
 use Rattle.fields.specs.Field.{Field, fields, whole, after, front, parts, from}
 use Rattle.fields.proofs.Told.{told}
 use Rattle.fields.proofs.Rows.{ahead, from-row, from-less}

@@ -6,7 +6,7 @@ use mathlib.Core.List.{List}
 use borrow.Author.Needs.{needs}
 use borrow.Author.Tests.{not-true, not-false}
 use Rattle.fields.specs.Field.{Field, front, part}
-use Rattle.fields.proofs.Bools.{and-true}
+use Rattle.tags.proofs.Bools.{and-true}
 use Rattle.equality.specs.Equality.{exprEq}
 use Rattle.reserve_tokens.specs.ReserveTokens.{assigns}
 use Rattle.reserves.specs.Reserves.{containsWrapping, loweredBy, lowers}

@@ -4,7 +4,7 @@ use mathlib.Core.Path.{_≡_, refl, sym, ap, _∙_}
 use mathlib.Core.List.{List, []}
 use borrow.Author.Needs.{needs}
 use borrow.Author.Tests.{eq-eqb, ne-eqb}
-use Rattle.fields.specs.Tag.{InAsset}
+use Rattle.tags.specs.Tag.{InAsset}
 use Rattle.fields.specs.Field.{Field, front, tag, part}
 use Rattle.walking.specs.Walking.{peel, ident}
 use Rattle.tokens.specs.Tokens.{besideInAsset}

@@ -2,7 +2,7 @@
 use borrow.Author.Needs.{needs}
 use lib.ListN.{length}
 use Rattle.fields.proofs.Told.{told}
-use Rattle.fields.specs.Tag.{Parameter}
+use Rattle.tags.specs.Tag.{Parameter}
 use Rattle.fields.proofs.Rows.{from-less}
 use Rattle.fields.proofs.Choosing.{Choosing, choosing-first, choosing-here, choosing-on, choosing-none}
 use Rattle.walking.specs.Walking.{isAssetParameter}

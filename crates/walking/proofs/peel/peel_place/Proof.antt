@@ -10,7 +10,7 @@ use mir.Syntax.{w64}
 use mir.Val.{Fits}
 use lib.ListN.{length, take, drop, length-take, length-drop, take-append-drop}
 use lib.Seq.{take-append-seam, drop-append-le, drop-drop, drop-length}
-use Rattle.fields.specs.Tag.{isWrapper}
+use Rattle.tags.specs.Tag.{isWrapper}
 use Rattle.fields.specs.Field.{Field, fields, whole, lengthOf, front, tag, parts, sizes}
 use Rattle.fields.specs.Field.Field.{field}
 use Rattle.fields.specs.Field.Fields.{end}

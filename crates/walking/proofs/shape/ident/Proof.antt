@@ -5,7 +5,7 @@ use Prim.Native.Nat.{ℕ}
 use borrow.Author.Needs.{needs}
 use borrow.Author.Tests.{eq-eqb, ne-eqb}
 use lib.ListN.{length, take, drop}
-use Rattle.fields.specs.Tag.{Identifier}
+use Rattle.tags.specs.Tag.{Identifier}
 use Rattle.fields.specs.Field.{front, tag, text}
 use Rattle.walking.specs.Walking.{ident}
 use Rattle.walking.proofs.shape.ident.Statement.{statement}

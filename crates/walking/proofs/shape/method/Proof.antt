@@ -5,7 +5,7 @@ use mathlib.Core.List.{List, []}
 use Prim.Native.Nat.{ℕ}
 use borrow.Author.Needs.{needs}
 use lib.Dec.{eqb}
-use Rattle.fields.specs.Tag.{Member, Call}
+use Rattle.tags.specs.Tag.{Member, Call}
 use Rattle.fields.specs.Field.{front, tag, text, part}
 use Rattle.walking.specs.Walking.{method}
 use Rattle.walking.proofs.shape.method.Statement.{statement}

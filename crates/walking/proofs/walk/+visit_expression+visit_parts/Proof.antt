@@ -3,7 +3,7 @@ use Prim.Native.Nat.{_+_, _*_}
 use native.Mathlib.Omega.{arith}
 use borrow.Author.Needs.{needs}
 use lib.ListN.{length}
-use Rattle.fields.specs.Tag.{isExpression}
+use Rattle.tags.specs.Tag.{isExpression}
 use Rattle.fields.proofs.Told.{told}
 use Rattle.fields.proofs.Reading.{after-less}
 use Rattle.fields.proofs.Listing.{class-whole, down-note, down-fits, down-falls, down-noted, along-fits, Listing, listing-all, listing-on, listing-done}
@@ -19,7 +19,7 @@ use Rattle.fields.proofs.front.is_whole.Reads as is-whole-reads
 use Rattle.fields.proofs.front.length_of.Reads as length-of-reads
 use Rattle.fields.proofs.front.parts_of.Reads as parts-of-reads
 use Rattle.fields.proofs.front.tag_of.Reads as tag-of-reads
-use Rattle.fields.proofs.tag.is_expression.Reads as is-expression-reads
+use Rattle.tags.proofs.is_expression.Reads as is-expression-reads
 use Rattle.fields.proofs.table.note.Reads as note-reads
 use Rattle.walking.proofs.walk.+visit_expression+visit_parts.{statement}
 use Rattle.walking.proofs.walk.+visit_expression+visit_parts.Tie.{close}

@@ -1,6 +1,6 @@
 -- Of a statement its parts are listed, and of any other field nothing.
 use borrow.Author.Needs.{needs}
-use Rattle.fields.specs.Tag.{isStatement}
+use Rattle.tags.specs.Tag.{isStatement}
 use Rattle.fields.proofs.Listing.{class-whole, down-fits, down-same}
 use Rattle.walking.proofs.Visits.{statement-zero, no-statement, statement-parts}
 use Rattle.walking.proofs.walk.visit_statement.Statement.{statement}

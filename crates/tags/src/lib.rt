@@ -1,6 +1,6 @@
 // The tags of the model file, and the classes of tags. A test by ranges costs no table.
 ghost use mathlib.Core.Path.{_≡_};
-ghost use Rattle.fields.specs.Tag.{isItem, isClause, isStatement, isAssign, isExpression, isText, isWrapper, composite};
+ghost use Rattle.tags.specs.Tag.{isItem, isClause, isStatement, isAssign, isExpression, isText, isWrapper, composite};
 
 // Top level, and the parts of an entry
 pub const STATE: u8 = 0x01;

@@ -5,7 +5,7 @@ use mathlib.Core.Bool.{Bool, true, false}
 use native.Mathlib.Omega.{arith}
 use borrow.Author.Tests.{eqb-true, eqb-false, le-leb, lt-leb, leb-true}
 use lib.Dec.{eqb, leb}
-use Rattle.fields.specs.Tag.{between}
+use Rattle.tags.specs.Tag.{between}
 
 pub between-one : (k t : ℕ) → between k k t ≡ eqb t k
 between-one k t = go (eqb t k) (leb k t) refl refl

@@ -1,9 +1,0 @@
-use Rattle.fields.specs.Tag.{isAssign}
-use Rattle.fields.proofs.tag.is_assign.Statement.{statement}
-use Rattle.fields.proofs.tag.is_assign.Tie as tie
-
-pub is-assign-spec : {M : Type 1} → statement M
-unfolding isAssign
-is-assign-spec =
-    tie.close (tie.spec
-    (λ c. cc))  -- returns

@@ -1,9 +1,0 @@
-use Rattle.fields.specs.Tag.{isClause}
-use Rattle.fields.proofs.tag.is_clause.Statement.{statement}
-use Rattle.fields.proofs.tag.is_clause.Tie as tie
-
-pub is-clause-spec : {M : Type 1} → statement M
-unfolding isClause
-is-clause-spec =
-    tie.close (tie.spec
-    (λ c. cc))  -- returns

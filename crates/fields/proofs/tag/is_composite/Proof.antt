@@ -1,9 +1,0 @@
-use Rattle.fields.specs.Tag.{composite}
-use Rattle.fields.proofs.tag.is_composite.Statement.{statement}
-use Rattle.fields.proofs.tag.is_composite.Tie as tie
-
-pub is-composite-spec : {M : Type 1} → statement M
-unfolding composite
-is-composite-spec =
-    tie.close (tie.spec
-    (λ c. cc))  -- returns

@@ -1,9 +1,0 @@
-use Rattle.fields.specs.Tag.{isItem}
-use Rattle.fields.proofs.tag.is_item.Statement.{statement}
-use Rattle.fields.proofs.tag.is_item.Tie as tie
-
-pub is-item-spec : {M : Type 1} → statement M
-unfolding isItem
-is-item-spec =
-    tie.close (tie.spec
-    (λ c. cc))  -- returns

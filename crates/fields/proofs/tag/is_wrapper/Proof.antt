@@ -1,9 +1,0 @@
-use Rattle.fields.specs.Tag.{isWrapper}
-use Rattle.fields.proofs.tag.is_wrapper.Statement.{statement}
-use Rattle.fields.proofs.tag.is_wrapper.Tie as tie
-
-pub is-wrapper-spec : {M : Type 1} → statement M
-unfolding isWrapper
-is-wrapper-spec =
-    tie.close (tie.spec
-    (λ c. cc))  -- returns
