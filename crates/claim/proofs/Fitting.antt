@@ -40,7 +40,7 @@ few-fields (suc n) s = go (whole s) refl (few-fields n)
     go true h r = rw (length, row, h) (suc-le-suc (r (after s)))
     go false h r = rw (length, row, h) (omega arith)
 
-few-pass : {A : Type 0} (f : A → Bool) (l : List A) → count f l ≤ length l
+pub few-pass : {A : Type 0} (f : A → Bool) (l : List A) → count f l ≤ length l
 unfolding filter
 few-pass f [] = omega arith
 few-pass f (x ∷ l) = go (f x) refl (few-pass f l)

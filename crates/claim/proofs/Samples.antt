@@ -19,7 +19,11 @@ use Rattle.tokens.specs.Tokens.{single, differ, besideInAsset, tokenNamed, toke
 use Rattle.reserve_tokens.specs.ReserveTokens.{assigns, value, setsFrom, isZero, defaults, genesisValues, startsAtZero, raise, raises, credited, guardToken, guardTokens, only, debitToken, raiseToken, raiseTokens, reserveToken}
 use Rattle.reserves.specs.Reserves.{containsInflow, guardedField, guardedAmount, guardedBy, containsWrapping, loweredBy, lowers, reserveCovers, reserveBoundingPayout}
 use Rattle.matching.specs.Matching.{debitBackings, parameterBackings, backings, payoutToken, payoutAmount, equals, bounds, takeBacking, takeReserve, byReserve, byBounding, notTaken, byEqual, answer, start}
+use Rattle.reserves.specs.Candidates.{stateIndex}
+use Rattle.reserves.specs.Covers.{reserveOf}
+use Rattle.reserves.specs.declared.covering.Reserve.{Reserve}
 use Rattle.claim.specs.Verdict.{Verdict, matchFrom, matching, backingCount, entryAt, askEntry, entryVerdict, verdict, kind, index, sheet, written, spare}
+use Rattle.claim.specs.Reserve.{payoutReserve}
 
 -- Rows
 
@@ -52,6 +56,11 @@ left file n lent = written (verdict file n (length lent)) lent
 unfoldable pub spareOf : List ℕ → ℕ → ℕ
 unfolding found spare
 spareOf file n = spare (entryAt (fields file) n .this)
+
+-- the state field that covers a payout by itself
+unfoldable pub reserveIn : List ℕ → ℕ → ℕ → Reserve
+unfolding found payoutReserve reserveOf stateIndex
+reserveIn file n k = reserveOf (fields file) (payoutReserve (fields file) (entryAt (fields file) n .this) k)
 
 -- Files
 

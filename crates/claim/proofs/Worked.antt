@@ -3,12 +3,13 @@ use Prim.Native.Nat.{ℕ}
 use mathlib.Core.Path.{_≡_, refl}
 use mathlib.Core.List.{List, [], _∷_, _++_}
 use lib.ListN.{replicate}
-use Rattle.tags.specs.Tag.{State, Genesis, Entry, Limits, Name, Date, String, Caller, Call, Checked, Wrapping, Eq}
+use Rattle.tags.specs.Tag.{State, Genesis, Entry, Limits, Name, Date, String, Caller, Call, Checked, Wrapping, Eq, Ge, SubtractFrom}
 use Rattle.fields.proofs.Writing.{write, word, name, integer, identifier, times, nots}
 use Rattle.matching.specs.Matching.Cover.{equalDebit, equalParameter, boundingDebit, boundingParameter, reserve}
 use Rattle.matching.specs.Matching.Reason.{splitWithoutAmount, conflictAtEqual, amountTaken, noReserve}
+use Rattle.reserves.specs.declared.covering.Reserve.the-variants.{Covers, Nothing}
 use Rattle.claim.specs.Verdict.{refused, rejected, accepted, written, sheet, kind, index}
-use Rattle.claim.proofs.Samples.{Row, about, found, stated, left, spareOf, entry, one, state, asset, plain, guard, statement, caller, inAsset, holds, n, amount, half, lessOne, member, debit, send, raising, drawing}
+use Rattle.claim.proofs.Samples.{Row, about, found, stated, left, spareOf, reserveIn, entry, one, state, asset, plain, guard, statement, caller, inAsset, holds, n, amount, half, lessOne, member, debit, send, double, raising, drawing}
 
 -- document 01's 66 bytes
 unfoldable k3 : List ℕ
@@ -80,6 +81,27 @@ two-covers = refl
 spares : spareOf k3 0 ∷ spareOf k11 1 ∷ [] ≡ 0 ∷ 0 ∷ []
 unfolding spareOf k3
 spares = refl
+
+-- K11 and its payout again, with a state field before r
+abbrev again : List ℕ
+again = state "q" [] ++ k11 ++ entry (asset "b" ++ drawing ++ send double)
+
+-- as K11, with b.amount itself: the parameter backs the payout, and r covers it all the same
+abbrev backed : List ℕ
+backed =
+    state "r" (integer "0") ++ raising (guard (holds "T"))
+    ++ entry (asset "b" ++ guard (write Ge (identifier "r" ++ amount "b")) ++ write SubtractFrom (identifier "r" ++ amount "b") ++ send (amount "b"))
+
+-- the reserves by themselves: of K11, of K12, of two payouts of one amount, of which neither uses it up, and of one that is
+-- backed; none of a payout or an entry that is not there
+alone : reserveIn k11 1 0 ∷ reserveIn k12 1 0 ∷ reserveIn again 2 0 ∷ reserveIn again 2 1 ∷ reserveIn backed 1 0 ∷ []
+    ≡ Covers 0 ∷ Nothing ∷ Covers 1 ∷ Covers 1 ∷ Covers 0 ∷ []
+unfolding reserveIn
+alone = refl
+
+absent : reserveIn k11 1 1 ∷ reserveIn k11 0 0 ∷ reserveIn k11 2 0 ∷ reserveIn [] 0 0 ∷ [] ≡ replicate 4 Nothing
+unfolding reserveIn
+absent = refl
 
 -- the refusals, with number and place: an entry's content begins at 7, behind its head and name
 refusals : List Row

@@ -1,2 +1,3 @@
 pub mod Verdict
 pub mod Claim
+pub mod Reserve

@@ -2,7 +2,7 @@
 -- and no third.
 use Prim.Native.Nat.{ℕ}
 use mathlib.Core.Path.{_≡_, refl, sym, _∙_}
-use mathlib.Core.Bool.{Bool, true, false, not, _&&_, _||_, and-false}
+use mathlib.Core.Bool.{Bool, true, false, not, _&&_, _||_, and-false, and-true}
 use mathlib.Core.List.{List, []}
 use borrow.Author.Tests.{eq-eqb, eqb-true, ne-eqb}
 use lib.Dec.{eqb}
@@ -12,7 +12,6 @@ use Rattle.fields.specs.Field.{Field, Fields, fieldWith, fields, tagOf, whole, 
 use Rattle.fields.specs.Field.Field.{field}
 use Rattle.fields.specs.Field.Fields.{end, next}
 use Rattle.fields.proofs.Reading.{fields-next, fields-end, front-whole, front-none}
-use Rattle.tags.proofs.Bools.{and-true}
 use Rattle.fields.proofs.Texts.{number-symmetric}
 use Rattle.equality.specs.Equality.{sameText, exprEq, partsEq}
 use Rattle.equality.specs.Amount.{amountOf}

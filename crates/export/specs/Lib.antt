@@ -1,3 +1,4 @@
 pub mod Refusal
 pub mod Token
+pub mod Reserve
 pub mod Answer

@@ -7,11 +7,13 @@ use matching::answer::Reason;
 use questions::check::Answer;
 use questions::file::check_file;
 use reserve_tokens::reserve::reserve_token;
+use reserves::covering::Reserve;
 use tokens::ledger::NOT_LISTED;
 use tokens::token::admitted_inflow_token;
 use tokens::token::ledger_funding_token;
 use verdict::entry::Verdict;
 use verdict::file::file_verdict;
+use verdict::reserve::payout_reserve;
 ghost use mathlib.Core.Path.{_≡_};
 ghost use lib.ListN.{length};
 ghost use Rattle.fields.specs.Field.{fields, front};
@@ -28,6 +30,7 @@ ghost use Rattle.listing.specs.Listing.{listing};
 ghost use Rattle.export.specs.Answer.{outcome, firstOf, secondOf};
 ghost use Rattle.export.specs.Refusal.{questionIn, placeIn};
 ghost use Rattle.export.specs.Token.{isTokenOf};
+ghost use Rattle.export.specs.Reserve.{reserveNumber};
 
 // The number of a reason.
 fn number_of(why: Reason) -> usize
@@ -154,4 +157,19 @@ pub extern "C" fn zevdrak_is_reserve_token(file: &[u8], field: &[u8], token: &[u
     }
     let nothing = [0u16; 1];
     same_bytes(reserve_token(file, field, &nothing, NOT_LISTED), token)
+}
+
+// The number of the state field that covers a payout of an entry by itself, all counted from 0; 65,535 where none does, and in
+// a file that is longer than question 1 allows.
+#[no_mangle]
+pub extern "C" fn zevdrak_reserve_bounding_payout(file: &[u8], entry: usize, payout: usize) -> usize
+    ensures { λ r. ⌜ r ≡ reserveNumber (now (file .entry)) entry payout ⌝ }
+{
+    if 32768 < file.len() {
+        return 65535;
+    }
+    match payout_reserve(file, entry, payout) {
+        Reserve::Covers { index } => index,
+        Reserve::Nothing => 65535,
+    }
 }

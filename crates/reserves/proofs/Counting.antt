@@ -2,7 +2,7 @@
 -- table of one number for each three bytes of a file has room for all.
 use Prim.Native.Nat.{ℕ, _+_, _*_, _^_, _%_, _≤_, _<_}
 use mathlib.Core.Path.{_≡_, refl}
-use mathlib.Core.Bool.{Bool, true, false, cond, not, _&&_}
+use mathlib.Core.Bool.{Bool, true, false, cond, not, _&&_, and-false}
 use mathlib.Core.List.{List, [], _∷_, map, flatMap}
 use native.Mathlib.Omega.{arith}
 use native.Mathlib.Nat.{mod-eq-of-lt}
@@ -26,7 +26,7 @@ use Rattle.equality.proofs.Equality.{nothing-right}
 use Rattle.reserve_tokens.specs.ReserveTokens.{assigns}
 use Rattle.reserves.specs.Reserves.{guardedField, guardedAmount, containsWrapping, loweredBy, lowers}
 use Rattle.reserves.specs.Candidates.{counts, stateIndex, numbersAt, candidateNumbers, Candidates}
-use Rattle.reserves.proofs.General.{and-false, any-none, position-inside, size-least, row-few}
+use Rattle.reserves.proofs.General.{any-none, position-inside, size-least, row-few}
 
 -- What is missing does not count
 

@@ -15,10 +15,6 @@ use Rattle.fields.proofs.Lists.{Every}
 
 -- Tests
 
-pub and-false : (b : Bool) → b && false ≡ false
-and-false true = refl
-and-false false = refl
-
 pub or-left : (a b : Bool) → a ≡ true → a || b ≡ true
 or-left a b e = rw e
 

@@ -4,4 +4,5 @@ pub mod Chosen
 pub mod Written
 pub mod Running
 pub mod Placing
+pub mod Reserving
 pub mod Naming

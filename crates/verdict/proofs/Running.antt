@@ -98,15 +98,16 @@ map-at f [] k d h = absurd (omega (arith, h))
 map-at f (x ∷ l) zero d h = refl
 map-at f (x ∷ l) (suc k) d h = map-at f l k d (omega (arith, h))
 
-module _ (file : List ℕ) (place : ℕ) (table : List ℕ) (count : ℕ) (l : Payouts file place table count) (k : ℕ) (h : k < count) where
+module _ (file : List ℕ) (place : ℕ) (table : List ℕ) (count : ℕ) (listed : map (λ j. front (drop j file)) (take count table) ≡ payouts (entryOf file place))
+    (counted : count ≡ length (payouts (entryOf file place))) (k : ℕ) (h : k < count) where
   table-long : count ≤ length table
   table-long =
-      let e : length (take count table) ≡ count = sym (length-map (take count table) (λ j. front (drop j file))) ∙ ap length (l .listed) ∙ sym (l .counted) in
+      let e : length (take count table) ≡ count = sym (length-map (take count table) (λ j. front (drop j file))) ∙ ap length listed ∙ sym counted in
       omega (arith, rw length-take at e)
 
-  payout-there : (s : List ℕ) → s ≡ drop (getD table k 0) file → front s ≡ getD (payouts (entryOf file place)) k nothing
+  pub payout-there : (s : List ℕ) → s ≡ drop (getD table k 0) file → front s ≡ getD (payouts (entryOf file place)) k nothing
   payout-there s f =
-      rw (f, ← l .listed)
+      rw (f, ← listed)
       (sym (map-at (λ j. front (drop j file)) (take count table) k nothing (rw (length-take-le count table table-long) h)
       ∙ ap (λ j. front (drop j file)) (getD-take count table k 0 h)))
 
@@ -177,7 +178,7 @@ module _ (file : List ℕ) (place : ℕ) (table : List ℕ) (count : ℕ) (debit
 
     module _ (h : k < count) (s : List ℕ) (f : s ≡ drop (getD table k 0) file) where
       this-payout : front s ≡ getD (payouts entry) k nothing
-      this-payout = payout-there file place table count l k h s f
+      this-payout = payout-there file place table count (l .listed) (l .counted) k h s f
 
       -- what the answer needs
       pub running-prepared : Prepared file place debits debitCount total table count k candidates candidateCount fundings fundingsCount known s

@@ -2,4 +2,5 @@
 pub mod calls;
 pub mod entry;
 pub mod file;
+pub mod reserve;
 pub mod sheet;

@@ -1,14 +1,13 @@
 -- The three cases of the rule: no text, an empty text, a text with bytes.
 use Prim.Native.Nat.{ℕ}
 use mathlib.Core.Path.{_≡_, refl, sym, _∙_}
-use mathlib.Core.Bool.{Bool, true, false, not, _&&_}
+use mathlib.Core.Bool.{Bool, true, false, not, _&&_, and-true}
 use mathlib.Core.List.{List, [], _∷_}
 use borrow.Author.Needs.{needs}
 use lib.Dec.{eqb, leb, eqb·suc-zero}
 use lib.ListN.{length}
 use Rattle.fields.specs.Lists.{all, known}
 use Rattle.tags.specs.Tag.{between, isText}
-use Rattle.tags.proofs.Bools.{and-true}
 use Rattle.fields.proofs.Places.{no-bytes}
 use Rattle.fields.proofs.Told.{told}
 use Rattle.questions.specs.Questions.{contentAllowed}

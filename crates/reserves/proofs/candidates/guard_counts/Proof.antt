@@ -1,11 +1,10 @@
 -- Both tests, of which the one that fails decides.
 use Prim.Native.Nat.{ℕ}
 use mathlib.Core.Path.{_≡_, sym, _∙_}
-use mathlib.Core.Bool.{Bool, true, false, not}
+use mathlib.Core.Bool.{Bool, true, false, not, and-true, and-false}
 use mathlib.Core.List.{List}
 use borrow.Author.Needs.{needs}
 use borrow.Author.Tests.{not-true, not-false}
-use Rattle.tags.proofs.Bools.{and-true, and-false}
 use Rattle.fields.specs.Lists.{any, sameBytes}
 use Rattle.fields.specs.Field.{Field, Fields, front}
 use Rattle.questions.specs.Model.{stateNames, body}

@@ -1,7 +1,7 @@
 -- The first token asked for that is the field's says of each whether it is; where there is none, each is another.
 use Prim.Native.Nat.{ℕ, suc, _+_, _-_, _≤_, _<_}
 use mathlib.Core.Path.{_≡_, refl, sym, ap, _∙_}
-use mathlib.Core.Bool.{Bool, true, false}
+use mathlib.Core.Bool.{Bool, true, false, and-false}
 use mathlib.Core.Logic.{⊎-elim}
 use mathlib.Core.List.{List}
 use native.Mathlib.Omega.{arith}
@@ -10,7 +10,6 @@ use borrow.Author.Needs.{needs}
 use Rattle.fields.specs.Lists.{known, sameBytes}
 use Rattle.fields.proofs.Texts.{bytes-equal}
 use Rattle.reserves.specs.Holding.{askedToken, isToken, said, Numbered}
-use Rattle.reserves.proofs.General.{and-false}
 use Rattle.reserves.proofs.holding.number_for.Statement.{statement}
 use Rattle.reserves.proofs.holding.number_for.Tie as tie
 

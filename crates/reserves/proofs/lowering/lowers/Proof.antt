@@ -1,16 +1,14 @@
 -- The three tests of a lowering, in another order.
 use Prim.Native.Nat.{ℕ}
 use mathlib.Core.Path.{_≡_, sym}
-use mathlib.Core.Bool.{Bool, true, false, not}
+use mathlib.Core.Bool.{Bool, true, false, not, and-true, and-false}
 use mathlib.Core.List.{List}
 use borrow.Author.Needs.{needs}
 use borrow.Author.Tests.{not-true, not-false}
 use Rattle.fields.specs.Field.{Field, front, part}
-use Rattle.tags.proofs.Bools.{and-true}
 use Rattle.equality.specs.Equality.{exprEq}
 use Rattle.reserve_tokens.specs.ReserveTokens.{assigns}
 use Rattle.reserves.specs.Reserves.{containsWrapping, loweredBy, lowers}
-use Rattle.reserves.proofs.General.{and-false}
 use Rattle.reserves.proofs.lowering.lowers.Statement.{statement}
 use Rattle.reserves.proofs.lowering.lowers.Tie as tie
 

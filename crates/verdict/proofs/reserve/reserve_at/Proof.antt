@@ -1,0 +1,33 @@
+-- The calls and the payouts are all in the tables; the k-th payout asks for its own token, and nothing is remembered yet.
+use native.Mathlib.Omega.{arith}
+use borrow.Author.Needs.{needs}
+use Rattle.tokens.proofs.Entering.{fundings-unlisted}
+use Rattle.reserves.proofs.Counting.{candidates-listed}
+use Rattle.reserves.proofs.Remembering.{zeros-right}
+use Rattle.verdict.proofs.Reserving.{calls-fit, payout-missing, amount-short, payout-found}
+use Rattle.verdict.proofs.reserve.reserve_at.Statement.{statement}
+use Rattle.verdict.proofs.reserve.reserve_at.Tie as tie
+
+pub reserve-at-spec : {M : Type 1} → statement M
+reserve-at-spec =
+    tie.close
+    (tie.spec
+    (λ c. search needs)  -- slice-aggregate-list-body
+    (λ c κs. search needs)  -- list-body-requires
+    (λ c. search needs)  -- slice-aggregate-choose
+    (λ c. search needs)  -- slice-aggregate-choose-2
+    (λ c κs. search (calls-fit, needs))  -- choose-requires
+    (λ c. search (payout-missing, needs))  -- returns
+    (λ c. search needs)  -- slice-aggregate-number-at
+    (λ c κs. search needs)  -- number-at-requires
+    (λ c κs. search needs)  -- skip-requires
+    (λ c κs. search needs)  -- payout-amount-requires
+    (λ c κs. search needs)  -- peel-requires
+    (λ c. search needs)  -- slice-aggregate-list-candidates
+    (λ c κs. search needs)  -- list-candidates-requires
+    (λ c. search needs)  -- slice-aggregate-reserve-bounding-payout
+    (λ c. search needs)  -- slice-aggregate-reserve-bounding-payout-2
+    (λ c. search needs)  -- slice-aggregate-reserve-bounding-payout-3
+    (λ c. search needs)  -- slice-aggregate-reserve-bounding-payout-4
+    (λ c κs. (search needs, (search fundings-unlisted, (search amount-short, (search needs, (candidates-listed _ _ _ _ _ (c .before .before .before .before .before .list-candidates .ensures) (omega (arith, c .before .before .before .before .before .before .before .before .before .before .before .before .before .before .before .before .before .before .before .before .before .pre .0)), zeros-right _ _ _ 2979))))))  -- reserve-bounding-payout-requires
+    (λ c. payout-found _ (c .before .before .before .before .before .before .before .before .before .before .before .before .before .before .before .before .before .before .before .before .before .before .before .pre .0) _ (c .before .before .before .before .before .before .before .before .before .before .before .before .before .before .before .before .before .before .before .before .before .before .before .pre .1) _ _ _ (c .before .before .before .before .before .before .before .before .before .before .before .before .before .before .before .before .before .before .before .before .list-body .ensures) (search needs) (search needs) _ _ (search needs) _ (c .before .before .before .before .before .before .before .before .before .before .before .before .before .before .before .before .choose .ensures) _ (search needs) _ (c .before .before .before .before .before .before .before .before .before .before .before .before .number-at .ensures) _ (c .before .before .before .before .before .before .before .before .before .before .before .skip .ensures) _ (c .before .before .before .before .before .before .before .before .before .before .payout-amount .ensures .0) _ (c .before .before .before .before .before .before .before .before .before .peel .ensures .0) _ (search needs)))  -- returns-2

@@ -1,0 +1,70 @@
+// SPDX-License-Identifier: Apache-2.0 OR MIT
+// The state field that covers a payout by itself, for those who compare it: the verdict asks for it only where no backing
+// decides, and uses it up.
+use super::calls::choose;
+use super::entry::less;
+use fields::bytes::skip;
+use fields::front::is_whole;
+use fields::table::number_at;
+use matching::backing::payout_amount;
+use questions::model::nth_entry;
+use reserves::candidates::list_candidates;
+use reserves::covering::Reserve;
+use reserves::covering::reserve_bounding_payout;
+use tags::CALL;
+use tokens::ledger::NOT_LISTED;
+use walking::peel::peel;
+use walking::walk::list_body;
+ghost use mathlib.Core.Path.{_≡_};
+ghost use Prim.Native.Nat.{_≤_};
+ghost use lib.ListN.{length};
+ghost use Rattle.fields.specs.Field.{fields};
+ghost use Rattle.reserves.specs.Covers.{reserveOf};
+ghost use Rattle.matching.specs.Tables.{entryOf};
+ghost use Rattle.claim.specs.Verdict.{entryAt};
+ghost use Rattle.claim.specs.Reserve.{payoutReserve};
+
+// That of the k-th payout of the entry at a place of the file. There is room for every call of a file that passes question 1,
+// and so for every payout.
+fn reserve_at(file: &[u8], place: usize, k: usize) -> Reserve
+    requires short { ⌜ length (now file) ≤ 32768 ⌝ }
+    requires inside { ⌜ place ≤ length (now file) ⌝ }
+    ensures { λ r. ⌜ r ≡ reserveOf (fields (now (file .entry))) (payoutReserve (fields (now (file .entry))) (entryOf (now (file .entry)) place) k) ⌝ }
+{
+    let mut table = [0u16; 10923];
+    let mut payouts = [0u16; 10923];
+    let calls = list_body(file, place, CALL, &mut table);
+    let count = choose(file, &table, calls, true, &mut payouts);
+    if count <= k {
+        return Reserve::Nothing;
+    }
+    let amount = peel(payout_amount(skip(file, number_at(&payouts, k))));
+    let candidates = list_candidates(file, place, &mut table);
+    let unlisted = [0u16; 1];
+    let mut known = [0u16; 2979];
+    reserve_bounding_payout(
+        file,
+        place,
+        amount,
+        &payouts,
+        count,
+        k,
+        &table,
+        candidates,
+        &unlisted,
+        NOT_LISTED,
+        &mut known,
+    )
+}
+
+// That of the k-th payout of the n-th entry, both counted from 0.
+pub fn payout_reserve(file: &[u8], n: usize, k: usize) -> Reserve
+    requires { ⌜ length (now file) ≤ 32768 ⌝ }
+    ensures { λ r. ⌜ r ≡ reserveOf (fields (now (file .entry))) (payoutReserve (fields (now (file .entry))) (entryAt (fields (now (file .entry))) n .this) k) ⌝ }
+{
+    let entry = nth_entry(file, n);
+    if !is_whole(entry) {
+        return Reserve::Nothing;
+    }
+    reserve_at(file, less(file.len(), entry.len()), k)
+}
