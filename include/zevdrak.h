@@ -30,4 +30,9 @@ size_t zevdrak_listing(const uint8_t *file, size_t file_length, uint8_t *out, si
 /* Questions 1 to 8 of a file: 0 if all pass, else the number of the first "no", whose place is then written. */
 uint8_t zevdrak_check_file(const uint8_t *file, size_t file_length, size_t *place);
 
+/* The number of the state field that covers a payout of an entry by itself, whatever else backs the payout and whether or not
+   another one uses the field. All are counted from 0. Where none does, ZEVDRAK_NO_RESERVE. */
+#define ZEVDRAK_NO_RESERVE 65535
+size_t zevdrak_reserve_bounding_payout(const uint8_t *file, size_t file_length, size_t entry, size_t payout);
+
 #endif

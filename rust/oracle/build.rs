@@ -1,7 +1,8 @@
 // SPDX-License-Identifier: Apache-2.0 OR MIT
 //! Tells the compiler where the original `model.rs` and `signature.rs` stand,
 //! and derives from the latter a copy of the payout matching that also gives
-//! the covers, or the reason of a rejection.
+//! the covers, or the reason of a rejection, and one that gives each payout's
+//! reserve.
 
 #[path = "../quanta-ast/sources.rs"]
 mod sources;
@@ -88,6 +89,31 @@ const CHANGES: [(&str, &str); 11] = [
     ("\n    true\n}\n", "\n    Ok(covers)\n}\n"),
 ];
 
+/// What the other copy says in place of the original's text as far as `AMOUNT`,
+/// where a payout's amount and token are known. `RESERVE` is what it says then.
+const RESERVE_CHANGES: [(&str, &str); 2] = [
+    (
+        "fn every_payout_consumes_its_own_backing(model: &Model, entry: &EntryDecl) -> bool {\n",
+        "#[allow(unused_mut, unused_variables)]
+fn reserves_alone(model: &Model, entry: &EntryDecl) -> Vec<Option<String>> {
+    let mut found = Vec::new();\n",
+    ),
+    (
+        "None => return false,\n",
+        "None => {
+                        found.push(None);
+                        continue;
+                    }\n",
+    ),
+];
+const AMOUNT: &str = "        let amount = raw_amount.peel();\n";
+const RESERVE: &str =
+    "        found.push(reserve_bounding_payout(model, entry, amount, &inflows, token.as_deref()));
+    }
+    found
+}
+";
+
 fn main() {
     let model = sources::original("quanta-typeck/src/model.rs");
     let signature = sources::original("quanta-typeck/src/signature.rs");
@@ -95,8 +121,13 @@ fn main() {
     println!("cargo:rustc-env=QUANTA_SIGNATURE={}", signature.display());
     let text = std::fs::read_to_string(&signature).expect("the original source is readable");
     let folder = std::env::var_os("OUT_DIR").expect("cargo sets OUT_DIR");
-    let explained = Path::new(&folder).join("explained.rs");
-    std::fs::write(explained, changed(function(&text))).expect("OUT_DIR is writable");
+    let write = |name, text| {
+        std::fs::write(Path::new(&folder).join(name), text).expect("OUT_DIR is writable")
+    };
+    let original = function(&text);
+    write("explained.rs", changed(original, &CHANGES));
+    let reserves = changed(until_amount(original), &RESERVE_CHANGES) + RESERVE;
+    write("reserves.rs", reserves);
 }
 
 /// The text of the original function, from its first line to its closing brace.
@@ -108,8 +139,17 @@ fn function(text: &str) -> &str {
     &text[start..start + end]
 }
 
-fn changed(original: &str) -> String {
-    CHANGES
+/// Its text as far as a payout's amount.
+fn until_amount(original: &str) -> &str {
+    if original.matches(AMOUNT).count() != 1 {
+        stop("does not hold this text exactly once", AMOUNT);
+    }
+    let end = original.find(AMOUNT).unwrap_or_default() + AMOUNT.len();
+    &original[..end]
+}
+
+fn changed(original: &str, changes: &[(&str, &str)]) -> String {
+    changes
         .iter()
         .fold(original.to_string(), |text, (old, new)| {
             if original.matches(old).count() != 1 || text.matches(old).count() != 1 {
@@ -121,6 +161,6 @@ fn changed(original: &str) -> String {
 
 fn stop(why: &str, what: &str) -> ! {
     eprintln!("signature.rs has changed: {FUNCTION} {why}: {what}");
-    eprintln!("Bring the list CHANGES of oracle/build.rs up to date with it.");
+    eprintln!("Bring the lists of changes in oracle/build.rs up to date with it.");
     std::process::exit(1);
 }

@@ -1,8 +1,9 @@
 // SPDX-License-Identifier: Apache-2.0 OR MIT
 //! The proved functions beside the original's, on generated files: questions 1
 //! to 8 beside the decoder; equality and bounds of every pair of expressions of
-//! an entry's body, the token that each entry admits and the one that funds
-//! each map, beside the original's functions of the same name.
+//! an entry's body, the token that each entry admits, the one that funds each
+//! map, and the state field that covers each payout by itself, beside the
+//! original's functions of the same name.
 
 use model_file::decode;
 use oracle::Model;
@@ -26,6 +27,8 @@ struct Counts {
     funded: u64,
     fields: u64,
     holding: u64,
+    covered: u64,
+    uncovered: u64,
 }
 
 fn main() -> ExitCode {
@@ -43,7 +46,7 @@ fn main() -> ExitCode {
         }
     }
     println!(
-        "no difference on {} files: {} refused; {} pairs of expressions, {} equal, {} bounded; {} entries that admit a token; {} maps, {} with one funding token; {} state fields, {} that hold one",
+        "no difference on {} files: {} refused; {} pairs of expressions, {} equal, {} bounded; {} entries that admit a token; {} maps, {} with one funding token; {} state fields, {} that hold one; {} payouts with a reserve, {} without",
         counts.files,
         counts.refused,
         counts.pairs,
@@ -53,7 +56,9 @@ fn main() -> ExitCode {
         counts.maps,
         counts.funded,
         counts.fields,
-        counts.holding
+        counts.holding,
+        counts.covered,
+        counts.uncovered
     );
     ExitCode::SUCCESS
 }
@@ -76,13 +81,14 @@ fn compare(file: &[u8], counts: &mut Counts) -> Result<(), String> {
     };
     let model = Model::build(&contract);
     let mut maps = BTreeSet::new();
-    for entry in &model.entries {
+    for (number, entry) in model.entries.iter().enumerate() {
         let mut expressions = Vec::new();
         oracle::visit(entry, &mut |expression| {
             expressions.push(expression.clone())
         });
         maps.extend(expressions.iter().filter_map(map));
         compare_admitted(file, entry, counts)?;
+        compare_reserves(file, &model, number, counts)?;
         expressions.truncate(PAIRED);
         compare_pairs(file, &expressions, counts)?;
     }
@@ -104,6 +110,28 @@ fn compare_held(file: &[u8], model: &Model, field: &str, counts: &mut Counts) ->
         true => Ok(()),
         false => Err(format!("held token: {token:?} expected of {field}")),
     }
+}
+
+/// The state field that covers each payout of an entry, and none behind them.
+fn compare_reserves(
+    file: &[u8],
+    model: &Model,
+    entry: usize,
+    counts: &mut Counts,
+) -> Result<(), String> {
+    let reserves = oracle::payout_reserves(model, model.entries[entry]);
+    let covered = reserves.iter().flatten().count() as u64;
+    counts.covered += covered;
+    counts.uncovered += reserves.len() as u64 - covered;
+    for (payout, expected) in reserves.into_iter().chain([None]).enumerate() {
+        let ours = zevdrak::reserve_bounding_payout(file, entry, payout);
+        if ours != expected {
+            return Err(format!(
+                "reserve: {ours:?}, expected {expected:?} of payout {payout} of entry {entry}"
+            ));
+        }
+    }
+    Ok(())
 }
 
 /// The name on which a member is called.

@@ -3,7 +3,9 @@
 //!
 //! `every_payout_consumes_its_own_backing` is compiled unchanged. It says only
 //! yes or no, so a copy of it, derived by the build script, runs beside it and
-//! tells the covers or the reason. The two must agree on every entry.
+//! tells the covers or the reason. The two must agree on every entry. Another
+//! copy, which ends where it knows a payout's amount and token, asks the
+//! original's `reserve_bounding_payout` about each.
 
 mod answer;
 mod error;
@@ -54,6 +56,16 @@ mod signature {
         reserve_token(model, field)
     }
 
+    include!(concat!(env!("OUT_DIR"), "/reserves.rs"));
+
+    /// The state field that covers each payout by itself, by the original: no
+    /// backing is tried, and nothing is used. Its index among all of them.
+    pub fn payout_reserves(model: &Model, entry: &EntryDecl) -> Vec<Option<usize>> {
+        let index = |name: String| Cover::reserve(model, &name).index;
+        let found = reserves_alone(model, entry).into_iter();
+        found.map(|name| name.map(index)).collect()
+    }
+
     /// Visits the expressions of an entry's body as the original does.
     pub fn visit(entry: &EntryDecl, visitor: &mut impl FnMut(&Expr)) {
         for statement in &entry.body {
@@ -65,4 +77,6 @@ mod signature {
 pub use answer::{answer, answers, Answer, Cover, Kind, Reason, Rejection};
 pub use listing::{listing, listing_with_reasons};
 pub use model::Model;
-pub use signature::{accepts, admitted_token, bounds, equal, funding_tokens, held_token, visit};
+pub use signature::{
+    accepts, admitted_token, bounds, equal, funding_tokens, held_token, payout_reserves, visit,
+};

@@ -49,4 +49,10 @@ extern "C" {
         token: *const u8,
         token_length: usize,
     ) -> bool;
+    pub fn zevdrak_reserve_bounding_payout(
+        file: *const u8,
+        file_length: usize,
+        entry: usize,
+        payout: usize,
+    ) -> usize;
 }

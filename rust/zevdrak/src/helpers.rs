@@ -72,3 +72,15 @@ pub fn is_reserve_token(file: &[u8], field: &[u8], token: &[u8]) -> bool {
         )
     }
 }
+
+/// The state field that covers a payout of an entry by itself, whatever else
+/// backs it and whether or not another payout uses it: its index among them. All
+/// are counted from 0.
+pub fn reserve_bounding_payout(file: &[u8], entry: usize, payout: usize) -> Option<usize> {
+    let number =
+        unsafe { c::zevdrak_reserve_bounding_payout(file.as_ptr(), file.len(), entry, payout) };
+    (number != NO_RESERVE).then_some(number)
+}
+
+/// What is answered where there is none.
+const NO_RESERVE: usize = 65_535;

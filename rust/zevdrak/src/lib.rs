@@ -25,7 +25,7 @@ mod helpers;
 
 pub use helpers::{
     bounded_by_backing, check_file, expr_eq, is_admitted_inflow_token, is_ledger_funding_token,
-    is_reserve_token,
+    is_reserve_token, reserve_bounding_payout,
 };
 
 /// Bytes of covers that are enough for every entry: 3 for each of 64 payouts.
