@@ -13,6 +13,7 @@ use lib.ListN.{length, getD}
 use Rattle.fields.specs.Lists.{any, find, removeFirst, position, numbered, sameBytes}
 use Rattle.fields.specs.Field.{Field, Fields, nothing, part}
 use Rattle.tags.proofs.Bools.{and-left, and-right}
+use Rattle.fields.proofs.Lists.{any-append}
 use Rattle.fields.proofs.Texts.{bytes-equal}
 use Rattle.questions.specs.Model.{stateNames}
 use Rattle.walking.specs.Walking.{peel, receiver, debits, assetParams}
@@ -21,7 +22,7 @@ use Rattle.tokens.specs.Tokens.{fundingToken, admittedInflowToken}
 use Rattle.reserves.specs.Reserves.{reserveCovers, reserveBoundingPayout}
 use Rattle.matching.specs.Matching.{Cover, Source, Backing, Marks, debit, parameter, debitBackings, parameterBackings, backings, payoutToken, payoutAmount, equals, bounds, equalCover, boundingCover}
 use Rattle.matching.proofs.Truths.{and-both, or-right}
-use Rattle.matching.proofs.Finding.{any-append, any-implied, any-found, any-taken, find-passes}
+use Rattle.matching.proofs.Finding.{any-implied, any-found, any-taken, find-passes}
 use Rattle.matching.proofs.Counting.{any-none}
 use Rattle.matching.proofs.Ways.{Agree, Step, equal, bounding, reserving}
 use Rattle.claim.specs.Verdict.{kind, index}

@@ -29,6 +29,16 @@ module _ {A : Type 0} where
   map-append g [] m = refl
   map-append g (x ∷ xs) m = rw (map-append g xs m)
 
+  -- some element passes in one list or in the other
+  pub any-append : (f : A → Bool) (l m : List A) → any f (l ++ m) ≡ any f l || any f m
+  unfolding any
+  any-append f [] m = refl
+  any-append f (x ∷ xs) m = go (f x) (any-append f xs m)
+    where
+      go : (k : Bool) → any f (xs ++ m) ≡ any f xs || any f m → k || any f (xs ++ m) ≡ (k || any f xs) || any f m
+      go true r = refl
+      go false r = r
+
   module _ (P : A → Type 0) where
     pub every-append : (l m : List A) → Every P l → Every P m → Every P (l ++ m)
     every-append [] m p q = q

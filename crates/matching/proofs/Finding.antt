@@ -1,23 +1,13 @@
 -- The first of a list that passes a test, and the list without it: what is left and the one that was found are all there was.
 use mathlib.Core.Path.{_≡_, refl}
 use mathlib.Core.Bool.{Bool, true, false, _||_, false≢true}
-use mathlib.Core.List.{List, [], _∷_, _++_}
+use mathlib.Core.List.{List, [], _∷_}
 use mathlib.Core.Option.{none, some}
 use lib.ListN.{getElem?, drop}
 use Rattle.fields.specs.Lists.{any, filter, find, removeFirst, position}
 use Rattle.matching.proofs.Truths.{or-left, or-right, either, or-swap}
 
 module _ {A : Type 0} where
-  -- some element passes in one list or in the other
-  pub any-append : (f : A → Bool) (l m : List A) → any f (l ++ m) ≡ any f l || any f m
-  unfolding any
-  any-append f [] m = refl
-  any-append f (x ∷ xs) m = go (f x) (any-append f xs m)
-    where
-      go : (k : Bool) → any f (xs ++ m) ≡ any f xs || any f m → k || any f (xs ++ m) ≡ (k || any f xs) || any f m
-      go true r = refl
-      go false r = r
-
   -- a weaker test passes too
   pub any-implied : (f g : A → Bool) → ((x : A) → f x ≡ true → g x ≡ true) → (l : List A) → any f l ≡ true → any g l ≡ true
   unfolding any

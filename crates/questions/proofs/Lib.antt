@@ -1,6 +1,7 @@
 pub mod Rows
 pub mod Left
 pub mod Asking
+pub mod Noting
 pub mod Naming
 pub mod Examples
 pub mod Accessors

@@ -5,3 +5,4 @@ pub mod Questions
 pub mod Answers
 pub mod Room
 pub mod Shown
+pub mod Noted
