@@ -82,9 +82,9 @@ spares : spareOf k3 0 ∷ spareOf k11 1 ∷ [] ≡ 0 ∷ 0 ∷ []
 unfolding spareOf k3
 spares = refl
 
--- K11 and its payout again, with a state field before r
+-- K11 and its payout again, inside Checked, with a state field before r
 abbrev again : List ℕ
-again = state "q" [] ++ k11 ++ entry (asset "b" ++ drawing ++ send double)
+again = state "q" [] ++ k11 ++ entry (asset "b" ++ drawing ++ send (write Checked double))
 
 -- as K11, with b.amount itself: the parameter backs the payout, and r covers it all the same
 abbrev backed : List ℕ

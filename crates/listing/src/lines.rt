@@ -146,8 +146,8 @@ pub fn listing(file: &[u8], buffer: &mut [u8]) -> usize
     if let Answer::Refused { number, place } = check_file(file) {
         return refusal_line(number, place, buffer, 0);
     }
-    if file.len() <= 3072 {
-        let mut table = [0u16; 1024];
+    if file.len() <= 6144 {
+        let mut table = [0u16; 2048];
         return all_lines(file, &mut table, buffer);
     }
     let mut table = [0u16; 10923];

@@ -107,8 +107,8 @@ fn check_names_in(file: &[u8], table: &mut [u8]) -> Answer
 pub fn check_names(file: &[u8]) -> Answer
     ensures { λ r. ⌜ asked r ≡ askNames [] (states (fields (now (file .entry)))) ⌝ }
 {
-    if file.len() <= 3072 {
-        let mut table = [0u8; 1024];
+    if file.len() <= 6144 {
+        let mut table = [0u8; 2048];
         return check_names_in(file, &mut table);
     }
     let mut table = [0u8; 16384];

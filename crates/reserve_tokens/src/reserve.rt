@@ -193,11 +193,11 @@ fn short_file_token<'a>(
     fundings: &[u16],
     fundings_count: usize,
 ) -> &'a [u8]
-    requires short { ⌜ length (now file) ≤ 3072 ⌝ }
+    requires short { ⌜ length (now file) ≤ 6144 ⌝ }
     requires fundings { ⌜ Fundings (now file) (now fundings) «fundings_count» ⌝ }
     ensures { λ r. ⌜ now r ≡ single (raiseTokens (fields (now (file .entry))) (now (name .entry))) ⌝ }
 {
-    let mut calls = [0u16; 1024];
+    let mut calls = [0u16; 2048];
     raises_token(file, name, fundings, fundings_count, &mut calls)
 }
 
@@ -230,7 +230,7 @@ pub fn reserve_token<'a>(
     if !starts_at_zero(file, name) {
         return &file[..0];
     }
-    if file.len() <= 3072 {
+    if file.len() <= 6144 {
         return short_file_token(file, name, fundings, fundings_count);
     }
     long_file_token(file, name, fundings, fundings_count)

@@ -154,11 +154,6 @@ candidates-listed file place table last r p h =
       many = omega (arith, p .count);
     }
 
--- as does a table of 10,923 numbers for every file that passes question 1
-pub candidates-all : (file : List ℕ) (place : ℕ) (table last : List ℕ) (r : ℕ) →
-    Listed (candidateNumbers (fields file) (placedAt file place)) table 0 last r → length file ≤ 32768 → length table ≡ 10923 → Candidates file place last r
-candidates-all file place table last r p h w = candidates-listed file place table last r p (omega arith)
-
 -- Up to 65,535 the two bytes hold the numbers themselves
 
 -- what the table says of a part: the guard that stands at the first number, and its state field

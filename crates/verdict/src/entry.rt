@@ -341,8 +341,8 @@ fn verdict_at(file: &[u8], place: usize, covers: &mut [u8]) -> Verdict
 {
     let mut fundings = [0u16; 1900];
     let mut fundings_count = NOT_LISTED;
-    if file.len() <= 3072 {
-        let mut table = [0u16; 1024];
+    if file.len() <= 6144 {
+        let mut table = [0u16; 2048];
         return placed_verdict(
             file,
             place,

@@ -17,7 +17,8 @@ ghost use Rattle.walking.specs.Walking.{walk, walkParts, stmtExprs, body
 ghost use Rattle.fields.specs.Table.{Listed, Room};
 ghost use Rattle.walking.specs.Table.{placedAt, placesOf};
 
-// Lists the expressions of the field at the front of s, which stands at base, from n of the table on. Two bytes hold every
+// Lists the expressions of the field at the front of s, which stands at base, from n of the table on. Most have no parts, and
+// then nothing is called. Two bytes hold every
 // place of a file that passes question 1; of a longer one they hold the place modulo 65,536, so that the walk asks nothing
 // of its caller.
 fn visit_expression(s: &[u8], base: usize, tag: u8, table: &mut [u16], n: usize) -> usize
@@ -29,7 +30,11 @@ fn visit_expression(s: &[u8], base: usize, tag: u8, table: &mut [u16], n: usize)
         return n;
     }
     let m = note(here == tag, base % 65536, table, n);
-    visit_parts(parts_of(s), base + 3, tag, table, m)
+    let parts = parts_of(s);
+    if parts.len() == 0 {
+        return m;
+    }
+    visit_parts(parts, base + 3, tag, table, m)
 }
 
 // The same of every field of s.

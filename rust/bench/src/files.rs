@@ -35,7 +35,52 @@ pub fn samples() -> Vec<Sample> {
             "more payouts, guards and raises",
             guards_and_raises(40, 300, 400),
         ),
+        sample("guards and lowerings", largest(guards_and_lowerings)),
+        sample("state fields and guards", largest(states_and_guards)),
+        sample(
+            "conditions and parameters",
+            largest(conditions_and_parameters),
+        ),
     ]
+}
+
+/// The largest file of a family that grows evenly.
+fn largest(make: impl Fn(usize) -> Vec<Field>) -> Vec<Field> {
+    let size = |count| bytes(&make(count)).len();
+    let step = size(2) - size(1);
+    make(1 + (32_768 - size(1)) / step)
+}
+
+/// The worst that were found for the proved verdict itself. Here no guard's
+/// amount is that of a lowering, so each is compared with all.
+fn guards_and_lowerings(count: usize) -> Vec<Field> {
+    let amount = |kind: &str, i: usize| identifier(&format!("{kind}{i:04}"));
+    let mut parts = vec![asset("a")];
+    parts.extend((0..count).map(|i| guard(binary(AT_LEAST, identifier("r"), amount("g", i)))));
+    parts.extend((0..count).map(|i| assign(tag::SUBTRACT, identifier("r"), amount("l", i))));
+    parts.push(pays("T", amount_of("a")));
+    vec![state("r", None), entry("f", parts)]
+}
+
+/// Each guard bounds by what is lowered but is no state field, so it is looked
+/// for among all of them.
+fn states_and_guards(count: usize) -> Vec<Field> {
+    let mut fields: Vec<Field> = (0..count).map(|i| state(&format!("{i:04}"), None)).collect();
+    let mut parts = vec![asset("a")];
+    parts.extend((0..count).map(|_| guard(binary(GREATER, identifier("r"), identifier("n")))));
+    parts.push(assign(tag::SUBTRACT, identifier("r"), identifier("n")));
+    parts.push(pays("T", amount_of("a")));
+    fields.push(entry("f", parts));
+    fields
+}
+
+/// Each payout asks for the token that all conditions name.
+fn conditions_and_parameters(count: usize) -> Vec<Field> {
+    let name = |i: usize| format!("a{i:02}");
+    let mut parts: Vec<Field> = (0..64).map(|i| asset(&name(i))).collect();
+    parts.extend((0..count).map(|_| limits(binary(EQUAL, in_asset(), identifier("T")))));
+    parts.extend((0..64).map(|i| pays("T", amount_of(&name(i)))));
+    vec![entry("f", parts)]
 }
 
 /// The contract with so many more statements in each entry.

@@ -52,12 +52,22 @@ fn accepted(model: &Model) -> usize {
     model.entries.iter().filter(accepted).count()
 }
 
-/// The time of one run: the mean of as many as fit in a fifth of a second, and
-/// of one at least.
+/// The time of one run: the best of the means over a fiftieth of a second, or
+/// over one run where that takes longer, in a fifth of a second. The best, since
+/// whatever else the machine does only adds to a time.
 pub fn repeated(mut run: impl FnMut() -> usize) -> Duration {
     let start = Instant::now();
+    let mut best = mean(&mut run);
+    while start.elapsed() < Duration::from_millis(200) {
+        best = best.min(mean(&mut run));
+    }
+    best
+}
+
+fn mean(run: &mut impl FnMut() -> usize) -> Duration {
+    let start = Instant::now();
     let mut runs = 0;
-    while runs == 0 || start.elapsed() < Duration::from_millis(200) {
+    while runs == 0 || start.elapsed() < Duration::from_millis(20) {
         black_box(run());
         runs += 1;
     }
@@ -105,20 +115,37 @@ fn table(measures: &[Measure], limit: Duration) {
     }
 }
 
+/// How often each time is taken. The measures take turns, so that a spell in
+/// which the machine is slow does not fall on one of them alone.
+const TURNS: usize = 10;
+
 /// The times of one file, and their ratios to the first.
 fn row(measures: &[Measure], sample: &Sample, limit: Duration) {
-    let mut first = None;
-    for measure in measures {
-        let time = in_a_process(sample.name, measure.name, limit);
+    let times = best_times(measures, sample, limit);
+    let first = times.iter().flatten().next().map(Duration::as_secs_f64);
+    for (place, time) in times.iter().enumerate() {
         match (time, first) {
-            (None, _) => print!(" {:>12}", format!("> {} s", limit.as_secs())),
-            (Some(time), None) => print!(" {:>12}", shown(time)),
-            (Some(time), Some(first)) => {
-                print!(" {:>12} {:>5.2}", shown(time), time.as_secs_f64() / first)
+            (Some(time), Some(first)) if place > 0 => {
+                print!(" {:>12} {:>5.2}", shown(*time), time.as_secs_f64() / first)
             }
+            (Some(time), _) => print!(" {:>12}", shown(*time)),
+            (None, _) => print!(" {:>12}", format!("> {} s", limit.as_secs())),
         }
-        first = first.or(time.map(|t| t.as_secs_f64()));
     }
+}
+
+/// The best time of each measure; nothing where one takes too long, which is
+/// then not tried again.
+fn best_times(measures: &[Measure], sample: &Sample, limit: Duration) -> Vec<Option<Duration>> {
+    let mut best = vec![Some(Duration::MAX); measures.len()];
+    for _ in 0..TURNS {
+        for (measure, best) in measures.iter().zip(&mut best) {
+            *best = best.and_then(|best| {
+                in_a_process(sample.name, measure.name, limit).map(|time| best.min(time))
+            });
+        }
+    }
+    best
 }
 
 fn shown(time: Duration) -> String {

@@ -11,7 +11,8 @@ use quanta_ast::{EntryDecl, Expr};
 use std::collections::BTreeSet;
 use std::process::ExitCode;
 
-/// How many expressions of an entry are paired: a few files have thousands.
+/// How many expressions of an entry are paired, if nothing else is said: a few
+/// files have thousands, and pairs take most of the time.
 const PAIRED: usize = 100;
 
 /// What was compared.
@@ -33,14 +34,15 @@ struct Counts {
 
 fn main() -> ExitCode {
     let mut arguments = std::env::args().skip(1).map(|word| word.parse::<u64>());
-    let (Some(Ok(count)), first) = (arguments.next(), arguments.next()) else {
-        eprintln!("usage: compare-library N [FIRST-SEED]");
+    let Some(Ok(count)) = arguments.next() else {
+        eprintln!("usage: compare-library N [FIRST-SEED [EXPRESSIONS-PAIRED]]");
         return ExitCode::from(2);
     };
-    let first = first.map_or(0, |word| word.unwrap_or(0));
+    let mut or = |default| arguments.next().map_or(default, |word| word.unwrap_or(default));
+    let (first, paired) = (or(0), or(PAIRED as u64) as usize);
     let mut counts = Counts::default();
     for seed in first..first + count {
-        if let Err(difference) = compare(&generator::file(seed), &mut counts) {
+        if let Err(difference) = compare(&generator::file(seed), paired, &mut counts) {
             println!("seed {seed}: {difference}");
             return ExitCode::FAILURE;
         }
@@ -64,7 +66,7 @@ fn main() -> ExitCode {
 }
 
 /// One file, or what differs.
-fn compare(file: &[u8], counts: &mut Counts) -> Result<(), String> {
+fn compare(file: &[u8], paired: usize, counts: &mut Counts) -> Result<(), String> {
     counts.files += 1;
     let ours = zevdrak::check_file(file).map_err(|refusal| (refusal.number, refusal.place));
     let theirs = decode(file);
@@ -89,7 +91,7 @@ fn compare(file: &[u8], counts: &mut Counts) -> Result<(), String> {
         maps.extend(expressions.iter().filter_map(map));
         compare_admitted(file, entry, counts)?;
         compare_reserves(file, &model, number, counts)?;
-        expressions.truncate(PAIRED);
+        expressions.truncate(paired);
         compare_pairs(file, &expressions, counts)?;
     }
     maps.iter()

@@ -150,6 +150,8 @@ fn change_parts(random: &mut Random, field: &mut Field) {
         return change_tag(random, field);
     };
     match tag {
+        // An earlier change may have taken all parts away.
+        tag::CALL if parts.is_empty() => parts.push(leaf(random)),
         tag::CALL => match random.below(3) {
             0 => parts.insert(1 + random.below(parts.len()), leaf(random)),
             1 => parts.push(leaf(random)),

@@ -9,7 +9,7 @@ use Rattle.fields.proofs.Reading.{after-less}
 use Rattle.fields.proofs.Listing.{class-whole, down-note, down-fits, down-falls, down-noted, along-fits, Listing, listing-all, listing-on, listing-done}
 use Rattle.walking.specs.Walking.{walkParts}
 use Rattle.walking.specs.Table.{placesOf}
-use Rattle.walking.proofs.Visits.{expression-zero, no-expression, expression-parts, expressions}
+use Rattle.walking.proofs.Visits.{expression-zero, no-expression, expression-parts, expression-alone, expressions}
 use Rattle.walking.proofs.walk.visit_expression.Reads as visit-expression
 use Rattle.walking.proofs.walk.+visit_expression+visit_parts.Lts-visit_expression as visit-expression-lts
 use Rattle.walking.proofs.walk.visit_parts.Reads as visit-parts
@@ -36,10 +36,12 @@ pub +visit-expression+visit-parts-spec : {M : Type 1} → statement M
     (λ c. search no-expression)  -- visit-expression-returns
     (λ c κs. (search needs, search (down-note, class-whole isExpression expression-zero)))  -- visit-expression-note-requires
     (λ c κs. search needs)  -- visit-expression-parts-of-requires
+    (λ c. search needs)  -- visit-expression-same-length
+    (λ c. search expression-alone)  -- visit-expression-returns-2
     (λ c. search (down-fits, class-whole isExpression expression-zero))  -- visit-expression-add-visit-parts
     (λ c κs. search (down-falls, down-noted, class-whole isExpression expression-zero))  -- visit-expression-visit-parts-requires
-    (λ c. omega arith)  -- visit-expression-same-length
-    (λ c. search expression-parts))  -- visit-expression-returns-2
+    (λ c. omega arith)  -- visit-expression-same-length-2
+    (λ c. search expression-parts))  -- visit-expression-returns-3
     λ t. visit-parts-lts.spec
     (_, is-whole-reads.Learnt, _, visit-expression.Post, _, length-of-reads.Learnt, _, after-front-reads.Learnt) _ visit-parts.Post
     (λ s base tag table₀ n t₀ at₀ m₀ table t at m. Listing (λ t k fs. placesOf t (walkParts k fs)) tag s base table₀ n table t at m)  -- visit-parts-Inv-loop
