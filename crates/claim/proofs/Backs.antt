@@ -20,7 +20,8 @@ use Rattle.walking.specs.Walking.{peel, receiver, debits, assetParams}
 use Rattle.equality.specs.Amount.{amountOf}
 use Rattle.tokens.specs.Tokens.{fundingToken, admittedInflowToken}
 use Rattle.reserves.specs.Reserves.{reserveCovers, reserveBoundingPayout}
-use Rattle.matching.specs.Matching.{Cover, Source, Backing, Marks, debit, parameter, debitBackings, parameterBackings, backings, payoutToken, payoutAmount, equals, bounds, equalCover, boundingCover}
+use Rattle.reserves.specs.Payouts.{payoutToken, payoutAmount}
+use Rattle.matching.specs.Matching.{Cover, Source, Backing, Marks, debit, parameter, debitBackings, parameterBackings, backings, equals, bounds, equalCover, boundingCover}
 use Rattle.matching.proofs.Truths.{and-both, or-right}
 use Rattle.matching.proofs.Finding.{any-implied, any-found, any-taken, find-passes}
 use Rattle.matching.proofs.Counting.{any-none}

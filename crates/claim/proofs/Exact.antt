@@ -10,7 +10,8 @@ use mathlib.Core.Option.{Option, none, some}
 use lib.ListN.{length, getD, getElem?, take, drop}
 use Rattle.fields.specs.Lists.{any, filter, find, removeFirst}
 use Rattle.fields.specs.Field.{Field, Fields, nothing}
-use Rattle.matching.specs.Matching.{Cover, Backing, Marks, payoutAmount, equals, bounds, equalCover, takeBacking, byEqual, answer}
+use Rattle.reserves.specs.Payouts.{payoutAmount}
+use Rattle.matching.specs.Matching.{Cover, Backing, Marks, equals, bounds, equalCover, takeBacking, byEqual, answer}
 use Rattle.matching.specs.Matching.Answer.{cover}
 use Rattle.matching.proofs.Truths.{or-move}
 use Rattle.matching.proofs.Finding.{any-taken, find-none, find-passes, find-filter, filter-other, filter-taken}

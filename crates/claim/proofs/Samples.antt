@@ -18,7 +18,8 @@ use Rattle.bounds.specs.Bounds.{goesLeft, wrappingInside, boundedByBacking, lef
 use Rattle.tokens.specs.Tokens.{single, differ, besideInAsset, tokenNamed, tokensNamed, admittedInflowToken, isInflow, isCredit, isFunding, funds, ledgerFundingTokens, fundingToken}
 use Rattle.reserve_tokens.specs.ReserveTokens.{assigns, value, setsFrom, isZero, defaults, genesisValues, startsAtZero, raise, raises, credited, guardToken, guardTokens, only, debitToken, raiseToken, raiseTokens, reserveToken}
 use Rattle.reserves.specs.Reserves.{containsInflow, guardedField, guardedAmount, guardedBy, containsWrapping, loweredBy, lowers, reserveCovers, reserveBoundingPayout}
-use Rattle.matching.specs.Matching.{debitBackings, parameterBackings, backings, payoutToken, payoutAmount, equals, bounds, takeBacking, takeReserve, byReserve, byBounding, notTaken, byEqual, answer, start}
+use Rattle.reserves.specs.Payouts.{payoutToken, payoutAmount}
+use Rattle.matching.specs.Matching.{debitBackings, parameterBackings, backings, equals, bounds, takeBacking, takeReserve, byReserve, byBounding, notTaken, byEqual, answer, start}
 use Rattle.reserves.specs.Candidates.{stateIndex}
 use Rattle.reserves.specs.Covers.{reserveOf}
 use Rattle.reserves.specs.declared.covering.Reserve.{Reserve}

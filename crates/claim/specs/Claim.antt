@@ -18,7 +18,8 @@ use Rattle.walking.specs.Walking.{peel, payouts}
 use Rattle.equality.specs.Equality.{exprEq}
 use Rattle.tokens.specs.Tokens.{differ}
 use Rattle.reserves.specs.Reserves.{reserveCovers}
-use Rattle.matching.specs.Matching.{Cover, Source, Backing, debitBackings, parameterBackings, payoutToken, payoutAmount, equals, bounds}
+use Rattle.reserves.specs.Payouts.{payoutToken, payoutAmount}
+use Rattle.matching.specs.Matching.{Cover, Source, Backing, debitBackings, parameterBackings, equals, bounds}
 use Rattle.matching.specs.Matching.Source.{debit, parameter}
 use Rattle.claim.specs.Verdict.{Verdict, accepted, matching, entryAt, askEntry, verdict, written}
 

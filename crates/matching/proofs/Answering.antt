@@ -4,7 +4,6 @@ use mathlib.Core.Path.{_≡_, refl, sym, ap, _∙_}
 use mathlib.Core.Bool.{Bool, true, false, cond, not}
 use mathlib.Core.List.{List, [], _∷_}
 use mathlib.Core.Option.{Option, none, some}
-use native.Mathlib.Omega.{arith}
 use borrow.Author.Tests.{lt-ltb, le-ltb, ltb-true, ltb-false, not-true, not-false}
 use lib.Dec.{eqb, ltb}
 use lib.ListN.{length}
@@ -15,12 +14,13 @@ use Rattle.walking.specs.Walking.{peel, present}
 use Rattle.equality.specs.Equality.{exprEq}
 use Rattle.tokens.specs.Tokens.{differ}
 use Rattle.reserves.specs.Reserves.{reserveBoundingPayout}
-use Rattle.reserves.specs.Holding.{askedToken}
 use Rattle.reserves.specs.Candidates.{stateIndex}
 use Rattle.reserves.specs.Covers.{reserveOf}
 use Rattle.reserves.specs.declared.covering.Reserve.{Reserve as Reserved}
 use Rattle.reserves.specs.declared.covering.Reserve.the-variants.{Covers, Nothing}
-use Rattle.matching.specs.Matching.{Backing, Marks, payoutToken, payoutAmount, equals, bounds, equalCover, boundingCover, takeBacking, takeReserve, byReserve, byBounding, notTaken, byEqual, answer}
+use Rattle.reserves.specs.Payouts.{payoutToken, payoutAmount}
+use Rattle.reserves.specs.Asked.{askedToken, paidAt, askedAmount}
+use Rattle.matching.specs.Matching.{Backing, Marks, equals, bounds, equalCover, boundingCover, takeBacking, takeReserve, byReserve, byBounding, notTaken, byEqual, answer}
 use Rattle.matching.specs.Matching as matching
 use Rattle.matching.specs.Matching.Reason.{amountTaken}
 use Rattle.matching.specs.Matching.Answer.{rejection}
@@ -180,8 +180,7 @@ module _ (model : Fields) (entry : Field) (marks : Marks) (s : List ℕ) (q : Tr
       ∙ tried-open (beforeReserve marks (front s)) q g (byReserve model entry marks (front s)) h))
 
 module _ (file : List ℕ) (place : ℕ) (table : List ℕ) (count total : ℕ) (asked : List ℕ) (askedCount k : ℕ) (candidates : List ℕ) (candidateCount : ℕ)
-    (fundings : List ℕ) (fundingsCount : ℕ) (known s : List ℕ) (w : Prepared file place table count total asked askedCount k candidates candidateCount fundings fundingsCount known s) (m : Coded)
-    (x : List ℕ) (e : front x ≡ payoutAmount (front s)) where
+    (fundings : List ℕ) (fundingsCount : ℕ) (known s : List ℕ) (w : Prepared file place table count total asked askedCount k candidates candidateCount fundings fundingsCount known s) (m : Coded) where
   abbrev model : Fields
   model = fields file
 
@@ -200,37 +199,34 @@ module _ (file : List ℕ) (place : ℕ) (table : List ℕ) (count total : ℕ) 
       go true h = rw h
       go false h = rw h
 
-  module _ (y : List ℕ) (f : front y ≡ peel (front x)) where
-    abbrev covering : Option (List ℕ)
-    covering = reserveBoundingPayout model entry (front y) (askedToken file asked k)
+  abbrev covering : Option (List ℕ)
+  covering = reserveBoundingPayout model entry (askedAmount file asked k) (askedToken file asked k)
 
-    asked-for : reserveBoundingPayout model entry (peel (payoutAmount (front s))) (payoutToken (front s)) ≡ covering
-    asked-for = rw (f, e, w .token)
+  asked-for : reserveBoundingPayout model entry (peel (payoutAmount (front s))) (payoutToken (front s)) ≡ covering
+  unfolding askedAmount paidAt askedToken
+  asked-for = rw (w .payout)
 
-    module _ (r : Reserved) (g : r ≡ reserveOf model covering) where
-      pub reserve-none : r ≡ Nothing → Rejected NoReserve ≡ coded (byReserve model entry marks (front s))
-      unfolding coded reserveOf
-      reserve-none h = go covering refl
-        where
-          go : (o : Option (List ℕ)) → covering ≡ o → Rejected NoReserve ≡ coded (byReserve model entry marks (front s))
-          go none o = sym (ap coded (no-reserve-step model entry marks (front s) (asked-for ∙ o)))
-          go (some n) o = cc
+  module _ (r : Reserved) (g : r ≡ reserveOf model covering) where
+    pub reserve-none : r ≡ Nothing → Rejected NoReserve ≡ coded (byReserve model entry marks (front s))
+    unfolding coded reserveOf
+    reserve-none h = go covering refl
+      where
+        go : (o : Option (List ℕ)) → covering ≡ o → Rejected NoReserve ≡ coded (byReserve model entry marks (front s))
+        go none o = sym (ap coded (no-reserve-step model entry marks (front s) (asked-for ∙ o)))
+        go (some n) o = cc
 
-      pub reserve-covers : (i : ℕ) → r ≡ Covers i → (a : Answer) → a ≡ reserveAt m i → a ≡ coded (byReserve model entry marks (front s))
-      unfolding reserveOf stateIndex
-      reserve-covers i h a j = go covering refl
-        where
-          go : (o : Option (List ℕ)) → covering ≡ o → a ≡ coded (byReserve model entry marks (front s))
-          go none o = cc
-          go (some n) o =
-              let z : i ≡ position (sameBytes n) (stateNames model) = cc in
-              j ∙ sym (used-coded i) ∙ rw z (sym (ap coded (reserve-step model entry marks (front s) n (asked-for ∙ o))))
+    pub reserve-covers : (i : ℕ) → r ≡ Covers i → (a : Answer) → a ≡ reserveAt m i → a ≡ coded (byReserve model entry marks (front s))
+    unfolding reserveOf stateIndex
+    reserve-covers i h a j = go covering refl
+      where
+        go : (o : Option (List ℕ)) → covering ≡ o → a ≡ coded (byReserve model entry marks (front s))
+        go none o = cc
+        go (some n) o =
+            let z : i ≡ position (sameBytes n) (stateNames model) = cc in
+            j ∙ sym (used-coded i) ∙ rw z (sym (ap coded (reserve-step model entry marks (front s) n (asked-for ∙ o))))
 
-    pub reserve-short : length y ≤ length x → length x ≤ length s → length y ≤ 32768
-    reserve-short g h = omega (arith, w .short)
-
-    pub file-short : length file ≤ 32768
-    file-short = w .tabled .small
+  pub file-short : length file ≤ 32768
+  file-short = w .tabled .small
 
 -- each kind of cover, by the number
 module _ (bounding : Bool) (count i : ℕ) where

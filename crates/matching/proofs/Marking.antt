@@ -12,7 +12,7 @@ use Rattle.fields.specs.Field.{Field, front}
 use Rattle.walking.specs.Walking.{peel}
 use Rattle.equality.specs.Equality.{exprEq}
 use Rattle.bounds.specs.Bounds.{boundedByBacking}
-use Rattle.matching.specs.Matching.{payoutAmount}
+use Rattle.reserves.specs.Payouts.{payoutAmount}
 use Rattle.matching.specs.Numbers.{firstFrom, downFrom, markIs}
 use Rattle.matching.specs.Standing.{freeAt, usedAt, without, withUsed}
 use Rattle.matching.specs.Tables.{Tabled, Named, amountAt, matches, passes}

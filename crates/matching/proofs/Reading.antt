@@ -1,53 +1,18 @@
--- A payout's amount and the backings by number, as the code reads them.
+-- The backings by number, as the code reads them.
 use Prim.Native.Nat.{ℕ, _-_, _≤_, _<_}
-use mathlib.Core.Path.{_≡_, refl, sym, ap, _∙_}
-use mathlib.Core.Bool.{Bool, true, false, not}
+use mathlib.Core.Path.{_≡_, _∙_}
+use mathlib.Core.Bool.{not}
 use mathlib.Core.List.{List, []}
 use native.Mathlib.Omega.{arith}
 use borrow.Author.Tests.{lt-ltb, le-ltb}
 use lib.Dec.{ltb}
-use lib.ListN.{length, getD, take, drop, length-take, length-drop}
-use Rattle.fields.specs.Lists.{sameBytes, bytes}
-use Rattle.fields.specs.Field.{Field, fields, front, parts, part, sizes, placeOf}
+use lib.ListN.{length, getD, drop, length-drop}
+use Rattle.fields.specs.Field.{fields, front, part}
 use Rattle.questions.specs.Model.{nameOf}
-use Rattle.walking.specs.Walking.{peel, peelPlace, method, receiver, assetParams}
+use Rattle.walking.specs.Walking.{peel, receiver, assetParams}
 use Rattle.bounds.specs.Backing.{backingField}
 use Rattle.tokens.specs.Tokens.{admittedInflowToken, fundingToken}
-use Rattle.matching.specs.Matching.{payoutAmount}
 use Rattle.matching.specs.Tables.{Named, entryOf, amountAt, tokenAt}
-
--- the third argument, or what is split off
-module _ (s v k : List ℕ) (e : front v ≡ part 3 (front s)) (f : front k ≡ peel (front v)) (n : List ℕ) (g : n ≡ method (front k))
-    (b : Bool) (h : b ≡ sameBytes n (bytes "split")) where
-  test : sameBytes (method (peel (part 3 (front s)))) (bytes "split") ≡ b
-  test = rw (h, g, f, e)
-
-  pub split-amount : b ≡ true → (x : List ℕ) → front x ≡ part 1 (front k) → front x ≡ payoutAmount (front s)
-  unfolding payoutAmount
-  split-amount y x i = rw (test, y, ← e, ← f) i
-
-  pub whole-amount : b ≡ false → front v ≡ payoutAmount (front s)
-  unfolding payoutAmount
-  whole-amount y = rw (test, y) e
-
--- it is no longer than what it stands in
-abbrev shown : ℕ → List ℕ → List ℕ
-shown n t = drop (placeOf n (parts (front t))) (take (sizes (parts (front t))) (drop 3 t))
-
-part-within : (n : ℕ) (t x : List ℕ) → x ≡ shown n t → length x ≤ length t
-part-within n t x e = rw (e, length-drop, length-take, length-drop) (omega arith)
-
-module _ (s v : List ℕ) (e : v ≡ shown 3 s) where
-  pub whole-within : length v ≤ length s
-  whole-within = part-within 3 s v e
-
-  pub split-within : (k : List ℕ) → k ≡ drop (peelPlace (length v) 0 (front v)) v → (x : List ℕ) → x ≡ shown 1 k → length x ≤ length s
-  split-within k f x g =
-      let l : length k ≤ length v = rw (f, length-drop) (omega arith) in
-      omega (arith, part-within 1 k x g, l, whole-within)
-
-pub peel-within : (x y : List ℕ) (n : ℕ) → y ≡ drop n x → length y ≤ length x
-peel-within x y n e = rw (e, length-drop) (omega arith)
 
 -- a backing by number
 module _ (file : List ℕ) (place : ℕ) (table : List ℕ) (count i : ℕ) where

@@ -12,7 +12,8 @@ use Rattle.walking.specs.Walking.{peel, present}
 use Rattle.equality.specs.Equality.{exprEq}
 use Rattle.tokens.specs.Tokens.{differ}
 use Rattle.reserves.specs.Reserves.{reserveBoundingPayout}
-use Rattle.matching.specs.Matching.{Backing, Cover, Reason, Marks, Answer, payoutToken, payoutAmount, equals, bounds, equalCover, boundingCover, takeBacking, takeReserve, byReserve, byBounding, notTaken, byEqual, answer}
+use Rattle.reserves.specs.Payouts.{payoutToken, payoutAmount}
+use Rattle.matching.specs.Matching.{Backing, Cover, Reason, Marks, Answer, equals, bounds, equalCover, boundingCover, takeBacking, takeReserve, byReserve, byBounding, notTaken, byEqual, answer}
 use Rattle.matching.specs.Matching.Cover.{reserve}
 use Rattle.matching.specs.Matching.Reason.{splitWithoutAmount, conflictAtEqual, amountTaken, conflictAtBounding, noReserve, reserveUsed}
 use Rattle.matching.specs.Matching.Answer.{cover, rejection}

@@ -14,7 +14,8 @@ use Rattle.questions.specs.Model.{stateNames}
 use Rattle.walking.specs.Walking.{peel, present}
 use Rattle.tokens.specs.Tokens.{differ}
 use Rattle.reserves.specs.Reserves.{reserveBoundingPayout}
-use Rattle.matching.specs.Matching.{Backing, Marks, payoutToken, payoutAmount, equals, bounds, equalCover, boundingCover, takeBacking, takeReserve, byReserve, byBounding, notTaken, byEqual, answer}
+use Rattle.reserves.specs.Payouts.{payoutToken, payoutAmount}
+use Rattle.matching.specs.Matching.{Backing, Marks, equals, bounds, equalCover, boundingCover, takeBacking, takeReserve, byReserve, byBounding, notTaken, byEqual, answer}
 use Rattle.matching.specs.Matching as matching
 use Rattle.matching.specs.Matching.Cover.{equalDebit, equalParameter, boundingDebit, boundingParameter, reserve}
 use Rattle.matching.specs.Matching.Reason.{splitWithoutAmount, conflictAtEqual, amountTaken, conflictAtBounding, noReserve, reserveUsed}

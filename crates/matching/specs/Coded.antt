@@ -9,7 +9,8 @@ use Rattle.fields.specs.Lists.{any, find}
 use Rattle.fields.specs.Field.{Field, Fields}
 use Rattle.walking.specs.Walking.{peel, present}
 use Rattle.equality.specs.Equality.{exprEq}
-use Rattle.matching.specs.Matching.{Backing, Marks, payoutAmount, equals, bounds, equalCover, boundingCover, takeBacking, answer}
+use Rattle.reserves.specs.Payouts.{payoutAmount}
+use Rattle.matching.specs.Matching.{Backing, Marks, equals, bounds, equalCover, boundingCover, takeBacking, answer}
 use Rattle.matching.specs.Matching as matching
 use Rattle.matching.specs.Matching.Cover.{equalDebit, equalParameter, boundingDebit, boundingParameter, reserve}
 use Rattle.matching.specs.Matching.Reason.{splitWithoutAmount, conflictAtEqual, amountTaken, conflictAtBounding, noReserve, reserveUsed}

@@ -4,15 +4,16 @@ use mathlib.Core.Bool.{Bool, false, cond}
 use mathlib.Core.List.{List, [], _∷_, _++_, map}
 use mathlib.Core.Option.{none, some}
 use lib.Dec.{eqb}
-use Rattle.fields.specs.Lists.{any, find, removeFirst, position, numbered, sameBytes, bytes}
+use Rattle.fields.specs.Lists.{any, find, removeFirst, position, numbered, sameBytes}
 use Rattle.fields.specs.Field.{Field, Fields, part}
 use Rattle.questions.specs.Model.{stateNames}
-use Rattle.walking.specs.Walking.{peel, present, ident, method, receiver, assetParams, debits}
+use Rattle.walking.specs.Walking.{peel, present, receiver, assetParams, debits}
 use Rattle.equality.specs.Equality.{exprEq}
 use Rattle.equality.specs.Amount.{amountOf}
 use Rattle.bounds.specs.Bounds.{boundedByBacking}
 use Rattle.tokens.specs.Tokens.{admittedInflowToken, fundingToken, differ}
 use Rattle.reserves.specs.Reserves.{reserveBoundingPayout}
+use Rattle.reserves.specs.Payouts.{payoutToken, payoutAmount}
 
 -- a cover is one of five kinds, with an index among debits, asset parameters or state fields
 pub data Cover : Type 0 where
@@ -48,14 +49,6 @@ parameterBackings entry =
 -- debits in walk order, then parameters
 unfoldable pub backings : Fields → Field → List Backing
 backings model entry = debitBackings model entry ++ parameterBackings entry
-
--- a payout's token is its first argument, peeled, if an identifier
-unfoldable pub payoutToken : Field → List ℕ
-payoutToken p = ident (peel (part 1 p))
-
--- its amount is the third argument, or if that, peeled, calls a member `split`, that call's first argument
-unfoldable pub payoutAmount : Field → Field
-payoutAmount p = cond (sameBytes (method (peel (part 3 p))) (bytes "split")) (part 1 (peel (part 3 p))) (part 3 p)
 
 -- the backing's amount equals the payout's, peeled
 unfoldable pub equals : Field → Backing → Bool

@@ -1,6 +1,5 @@
 // SPDX-License-Identifier: Apache-2.0 OR MIT
 // The answer for one payout: a cover or a rejection.
-use super::backing::payout_amount;
 use super::backing::tokens_conflict;
 use super::marks::Marks;
 use super::marks::first_backing;
@@ -10,7 +9,7 @@ use super::marks::take_parameter;
 use super::marks::take_reserve;
 use reserves::covering::Reserve;
 use reserves::covering::reserve_bounding_payout;
-use walking::peel::peel;
+use reserves::payout::payout_amount;
 use walking::shape::is_present;
 ghost use mathlib.Core.Path.{_≡_};
 ghost use Prim.Native.Nat.{_+_, _≤_, _<_};
@@ -244,11 +243,9 @@ fn by_reserve(
     ensures answers { λ r. ⌜ r ≡ coded (byReserve (fields (now (file .entry))) (entryOf (now (file .entry)) place) (marksOf (backingsOf (now (file .entry)) place) marks) (front (now (s .entry)))) ⌝ }
     ensures right { λ r. ⌜ Right (now (file .entry)) (now (asked .entry)) «asked_count» (now (known .exit)) ⌝ }
 {
-    let amount = peel(payout_amount(s));
     match reserve_bounding_payout(
         file,
         place,
-        amount,
         asked,
         asked_count,
         k,

@@ -1,19 +1,17 @@
 // SPDX-License-Identifier: Apache-2.0 OR MIT
-// A payout's token and amount, and the backings of an entry by number: backing i is debit i, and behind the debits an asset
-// parameter. It stands in the file at the i-th place of a table, the call of a debit and the parameter itself.
+// The backings of an entry by number: backing i is debit i, and behind the debits an asset parameter. It stands in the file at
+// the i-th place of a table, the call of a debit and the parameter itself.
 use bounds::backing_eq;
 use bounds::bounded_by;
-use fields::bytes::same_bytes;
 use fields::bytes::skip;
 use fields::front::part_of;
 use fields::table::number_at;
 use questions::state::name_of;
+use reserves::payout::payout_token;
 use tokens::ledger::funding_token;
 use tokens::set::tokens_differ;
 use tokens::token::admitted_inflow_token;
 use walking::peel::peel;
-use walking::shape::ident;
-use walking::shape::method;
 use walking::shape::receiver;
 ghost use mathlib.Core.Path.{_≡_};
 ghost use mathlib.Core.Bool.{not, false};
@@ -27,28 +25,8 @@ ghost use Rattle.bounds.specs.Bounds.{boundedByBacking};
 ghost use Rattle.bounds.specs.Backing.{backingField};
 ghost use Rattle.tokens.specs.Tokens.{differ};
 ghost use Rattle.tokens.specs.Fundings.{Fundings};
-ghost use Rattle.matching.specs.Matching.{payoutToken, payoutAmount};
+ghost use Rattle.reserves.specs.Payouts.{payoutToken};
 ghost use Rattle.matching.specs.Tables.{Named, amountAt, tokenAt};
-
-// The token of the payout at the front of s: its first argument, peeled, if an identifier.
-pub fn payout_token(s: &[u8]) -> &[u8]
-    ensures { λ r. ⌜ now r ≡ payoutToken (front (now (s .entry))) ⌝ }
-{
-    ident(peel(part_of(s, 1)))
-}
-
-// Its amount, unpeeled: its third argument, or the first one of the call of a member `split` that this is.
-pub fn payout_amount(s: &[u8]) -> &[u8]
-    ensures reads { λ r. ⌜ front (now r) ≡ payoutAmount (front (now (s .entry))) ⌝ }
-    ensures within { λ r. ⌜ length (now r) ≤ length (now (s .entry)) ⌝ }
-{
-    let value = part_of(s, 3);
-    let call = peel(value);
-    if same_bytes(method(call), b"split") {
-        return part_of(call, 1);
-    }
-    value
-}
 
 // The amount, peeled, of the debit at the front of s.
 fn debit_amount(s: &[u8]) -> &[u8]

@@ -2,14 +2,14 @@
 // Which backings are free, and which reserves are used: a state by value, which each payout hands back.
 use super::backing::backing_bounds;
 use super::backing::backing_equals;
-use super::backing::payout_amount;
+use reserves::payout::payout_amount;
 use walking::peel::peel;
 ghost use mathlib.Core.Path.{_≡_};
 ghost use Prim.Native.Nat.{_+_};
 ghost use lib.Dec.{eqb};
 ghost use Rattle.fields.specs.Lists.{any};
 ghost use Rattle.fields.specs.Field.{front};
-ghost use Rattle.matching.specs.Matching.{payoutAmount};
+ghost use Rattle.reserves.specs.Payouts.{payoutAmount};
 ghost use Rattle.matching.specs.Numbers.{firstFrom, downFrom, markIs};
 ghost use Rattle.matching.specs.Tables.{Tabled, Named, amountAt, matches, passes};
 ghost use Rattle.matching.specs.Standing.{allFree, freeAt, usedAt, without, withUsed};

@@ -22,9 +22,11 @@ use Rattle.fields.proofs.Listing.{Row}
 use Rattle.questions.specs.Model.{nameOf, stateNames, body}
 use Rattle.walking.specs.Walking.{peel, peelFirst}
 use Rattle.walking.specs.Table.{placedAt}
+use Rattle.equality.specs.Equality.{exprEq}
 use Rattle.equality.proofs.Equality.{nothing-right}
 use Rattle.reserve_tokens.specs.ReserveTokens.{assigns}
 use Rattle.reserves.specs.Reserves.{guardedField, guardedAmount, containsWrapping, loweredBy, lowers}
+use Rattle.reserves.specs.Asked.{askedAmounts}
 use Rattle.reserves.specs.Candidates.{counts, stateIndex, numbersAt, candidateNumbers, Candidates}
 use Rattle.reserves.proofs.General.{any-none, position-inside, size-least, row-few}
 
@@ -38,34 +40,33 @@ missing-amount : guardedAmount nothing ≡ nothing
 unfolding guardedAmount peel peelFirst isWrapper
 missing-amount = refl
 
-missing-counts : (model : Fields) (entry : Field) → counts model entry nothing ≡ false
+missing-counts : (model : Fields) (amounts : List Field) (entry : Field) → counts model amounts entry nothing ≡ false
 unfolding counts
-missing-counts model entry =
-    rw (missing-amount, any-none (lowers nothing (guardedField nothing)) (missing-lowers (guardedField nothing)) (body entry))
-    (and-false (any (sameBytes (guardedField nothing)) (stateNames model)))
+missing-counts model amounts entry =
+    rw (missing-amount, any-none (lowers nothing (guardedField nothing)) (missing-lowers (guardedField nothing)) (body entry), and-false (any (exprEq nothing) amounts))
 
-pub counts-size : (model : Fields) (entry f : Field) → counts model entry (part 0 f) ≡ true → 6 ≤ size f
+pub counts-size : (model : Fields) (amounts : List Field) (entry f : Field) → counts model amounts entry (part 0 f) ≡ true → 6 ≤ size f
 unfolding nth size
-counts-size model entry (field t x (end r)) h = leb-true 6 (size (field t x (end r))) (cc (missing-counts model entry))
-counts-size model entry (field t x (next g gs)) h = omega (arith, size-least g)
+counts-size model amounts entry (field t x (end r)) h = leb-true 6 (size (field t x (end r))) (cc (missing-counts model amounts entry))
+counts-size model amounts entry (field t x (next g gs)) h = omega (arith, size-least g)
 
 -- Writing the two numbers
 
-module _ (model : Fields) (entry : Field) (s : List ℕ) (at : ℕ) (t : List ℕ) (n g : ℕ) (e : g ≡ tag (front s)) where
+module _ (model : Fields) (amounts : List Field) (entry : Field) (s : List ℕ) (at : ℕ) (t : List ℕ) (n g : ℕ) (e : g ≡ tag (front s)) where
   abbrev numbers : List ℕ
-  numbers = numbersAt model entry (record { place = at; this = front s })
+  numbers = numbersAt model amounts entry (record { place = at; this = front s })
 
   pub other-part : (g ≡ 0x10 → ⊥) → Listed numbers t n t n
   unfolding numbersAt
   other-part h = rw (← e, ne-eqb g 0x10 h) (listed-none t n)
 
-  module _ (h : g ≡ 0x10) (x : List ℕ) (f : front x ≡ part 0 (front s)) (b : Bool) (i : b ≡ counts model entry (front x)) where
+  module _ (h : g ≡ 0x10) (x : List ℕ) (f : front x ≡ part 0 (front s)) (b : Bool) (i : b ≡ counts model amounts entry (front x)) where
     pub not-counted : not b ≡ true → Listed numbers t n t n
     unfolding numbersAt
     not-counted k = rw (← e, eq-eqb g 0x10 h, ← f, ← i, not-true b k) (listed-none t n)
 
     module _ (k : not b ≡ false) where
-      counted : counts model entry (part 0 (front s)) ≡ true
+      counted : counts model amounts entry (part 0 (front s)) ≡ true
       counted = rw (← f, ← i) (not-false b k)
 
       long : 6 ≤ length s
@@ -73,10 +74,10 @@ module _ (model : Fields) (entry : Field) (s : List ℕ) (at : ℕ) (t : List �
       long = go (whole s) refl
         where
           go : (w : Bool) → whole s ≡ w → 6 ≤ length s
-          go true w = omega (arith, counts-size model entry (front s) counted, front-size s w, leb-true (3 + lengthOf s) (length s) w)
+          go true w = omega (arith, counts-size model amounts entry (front s) counted, front-size s w, leb-true (3 + lengthOf s) (length s) w)
           go false w =
-              let z : counts model entry nothing ≡ true = rw (front-none s w) at counted in
-              leb-true 6 (length s) (cc (z, missing-counts model entry))
+              let z : counts model amounts entry nothing ≡ true = rw (front-none s w) at counted in
+              leb-true 6 (length s) (cc (z, missing-counts model amounts entry))
 
       module _ (room : Room s at n) where
         pub first-fits : n + 1 < 2 ^ 64
@@ -95,49 +96,49 @@ module _ (model : Fields) (entry : Field) (s : List ℕ) (at : ℕ) (t : List �
 -- Along the parts of an entry
 
 -- what is written of a part, and of a row of them
-abbrev pub oneOf : Fields × Field → ℕ → Fields → List ℕ
-oneOf z n fs = numbersAt (z .0) (z .1) (record { place = n; this = nth 0 fs })
+abbrev pub oneOf : Fields × List Field × Field → ℕ → Fields → List ℕ
+oneOf z n fs = numbersAt (z .0) (z .1) (z .2) (record { place = n; this = nth 0 fs })
 
-abbrev pub manyOf : Fields × Field → ℕ → Fields → List ℕ
-manyOf z n fs = flatMap (numbersAt (z .0) (z .1)) (placed n fs)
+abbrev pub manyOf : Fields × List Field × Field → ℕ → Fields → List ℕ
+manyOf z n fs = flatMap (numbersAt (z .0) (z .1) (z .2)) (placed n fs)
 
-two-few : (model : Fields) (entry : Field) (p : Placed) → 3 * length (numbersAt model entry p) ≤ size (p .this)
+two-few : (model : Fields) (amounts : List Field) (entry : Field) (p : Placed) → 3 * length (numbersAt model amounts entry p) ≤ size (p .this)
 unfolding numbersAt
-two-few model entry p = go (eqb (tag (p .this)) Guard) (counts model entry (part 0 (p .this))) refl
+two-few model amounts entry p = go (eqb (tag (p .this)) Guard) (counts model amounts entry (part 0 (p .this))) refl
   where
-    go : (j k : Bool) → counts model entry (part 0 (p .this)) ≡ k →
+    go : (j k : Bool) → counts model amounts entry (part 0 (p .this)) ≡ k →
         3 * length (cond (j && k) (p .place % 65536 ∷ stateIndex model (guardedField (part 0 (p .this))) % 65536 ∷ []) []) ≤ size (p .this)
-    go true true e = omega (arith, counts-size model entry (p .this) e)
+    go true true e = omega (arith, counts-size model amounts entry (p .this) e)
     go true false e = omega arith
     go false k e = omega arith
 
-pub candidate-row : (z : Fields × Field) → Row (oneOf z) (manyOf z)
+pub candidate-row : (z : Fields × List Field × Field) → Row (oneOf z) (manyOf z)
 unfolding flatMap placed nth
 candidate-row z =
     record {
       none = λ n r. refl;
       more = λ n f fs. refl;
-      few = λ n f fs. two-few (z .0) (z .1) (record { place = n; this = f });
+      few = λ n f fs. two-few (z .0) (z .1) (z .2) (record { place = n; this = f });
     }
 
 -- How many there are
 
-many-few : (z : Fields × Field) (n : ℕ) (fs : Fields) → 3 * length (manyOf z n fs) ≤ sizes fs
+many-few : (z : Fields × List Field × Field) (n : ℕ) (fs : Fields) → 3 * length (manyOf z n fs) ≤ sizes fs
 unfolding flatMap placed sizes
 many-few z n (end r) = omega arith
 many-few z n (next f fs) =
-    rw (length-append (numbersAt (z .0) (z .1) (record { place = n; this = f })) (manyOf z (n + size f) fs))
-    (omega (arith, two-few (z .0) (z .1) (record { place = n; this = f }), many-few z (n + size f) fs))
+    rw (length-append (numbersAt (z .0) (z .1) (z .2) (record { place = n; this = f })) (manyOf z (n + size f) fs))
+    (omega (arith, two-few (z .0) (z .1) (z .2) (record { place = n; this = f }), many-few z (n + size f) fs))
 
-pub candidates-few : (model : Fields) (file : List ℕ) (n : ℕ) → 3 * length (candidateNumbers model (placedAt file n)) ≤ length file
+pub candidates-few : (model : Fields) (amounts : List Field) (file : List ℕ) (n : ℕ) → 3 * length (candidateNumbers model amounts (placedAt file n)) ≤ length file
 unfolding candidateNumbers flatMap placed
-candidates-few model file n = go (whole (drop n file)) refl
+candidates-few model amounts file n = go (whole (drop n file)) refl
   where
-    go : (w : Bool) → whole (drop n file) ≡ w → 3 * length (candidateNumbers model (placedAt file n)) ≤ length file
+    go : (w : Bool) → whole (drop n file) ≡ w → 3 * length (candidateNumbers model amounts (placedAt file n)) ≤ length file
     go true w =
         omega (
           arith,
-          many-few (model, front (drop n file)) (n + 3) (parts (front (drop n file))),
+          many-few (model, amounts, front (drop n file)) (n + 3) (parts (front (drop n file))),
           parts-inside (front (drop n file)),
           front-size (drop n file) w,
           leb-true (3 + lengthOf (drop n file)) (length (drop n file)) w,
@@ -146,20 +147,24 @@ candidates-few model file n = go (whole (drop n file)) refl
     go false w = rw (front-none (drop n file) w) (omega arith)
 
 -- so a table of one number for each three bytes of the file holds them all
-pub candidates-listed : (file : List ℕ) (place : ℕ) (table last : List ℕ) (r : ℕ) →
-    Listed (candidateNumbers (fields file) (placedAt file place)) table 0 last r → length file ≤ 3 * length table → Candidates file place last r
-candidates-listed file place table last r p h =
+pub candidates-listed : (file : List ℕ) (place : ℕ) (asked : List ℕ) (count : ℕ) → count ≤ length asked → (table last : List ℕ) (r : ℕ) →
+    Listed (candidateNumbers (fields file) (askedAmounts file asked count) (placedAt file place)) table 0 last r → length file ≤ 3 * length table →
+    Candidates file place asked count last r
+candidates-listed file place asked count w table last r p h =
     record {
-      all = listed-front (candidateNumbers (fields file) (placedAt file place)) table last r p (omega (arith, p .count, candidates-few (fields file) file place));
+      room = w;
+      all =
+          listed-front (candidateNumbers (fields file) (askedAmounts file asked count) (placedAt file place)) table last r p
+          (omega (arith, p .count, candidates-few (fields file) (askedAmounts file asked count) file place));
       many = omega (arith, p .count);
     }
 
 -- Up to 65,535 the two bytes hold the numbers themselves
 
 -- what the table says of a part: the guard that stands at the first number, and its state field
-unfoldable pub exactAt : Fields → Field → Placed → List ℕ
-exactAt model entry p =
-    cond (eqb (tag (p .this)) Guard && counts model entry (part 0 (p .this))) (p .place ∷ stateIndex model (guardedField (part 0 (p .this))) ∷ []) []
+unfoldable pub exactAt : Fields → List Field → Field → Placed → List ℕ
+exactAt model amounts entry p =
+    cond (eqb (tag (p .this)) Guard && counts model amounts entry (part 0 (p .this))) (p .place ∷ stateIndex model (guardedField (part 0 (p .this))) ∷ []) []
 
 index-small : (file r : List ℕ) → length file ≤ 32768 → stateIndex (fields file) r < 65536
 unfolding stateIndex stateNames
@@ -172,25 +177,25 @@ index-small file r h =
       tree-size file,
     )
 
-exact-row : (file : List ℕ) → length file ≤ 32768 → (entry : Field) (n : ℕ) (fs : Fields) → n + sizes fs ≤ 65536 →
-    flatMap (numbersAt (fields file) entry) (placed n fs) ≡ flatMap (exactAt (fields file) entry) (placed n fs)
+exact-row : (file : List ℕ) → length file ≤ 32768 → (amounts : List Field) (entry : Field) (n : ℕ) (fs : Fields) → n + sizes fs ≤ 65536 →
+    flatMap (numbersAt (fields file) amounts entry) (placed n fs) ≡ flatMap (exactAt (fields file) amounts entry) (placed n fs)
 unfolding flatMap placed sizes numbersAt exactAt
-exact-row file h entry n (end r) l = refl
-exact-row file h entry n (next f fs) l =
+exact-row file h amounts entry n (end r) l = refl
+exact-row file h amounts entry n (next f fs) l =
     let a : n % 65536 ≡ n = mod-eq-of-lt (omega (arith, size-least f)) in
     let b : stateIndex (fields file) (guardedField (part 0 f)) % 65536 ≡ stateIndex (fields file) (guardedField (part 0 f)) =
     mod-eq-of-lt (index-small file (guardedField (part 0 f)) h) in
-    rw (a, b, exact-row file h entry (n + size f) fs (omega arith))
+    rw (a, b, exact-row file h amounts entry (n + size f) fs (omega arith))
 
-pub candidates-read : (file : List ℕ) → length file ≤ 32768 → (place : ℕ) →
-    candidateNumbers (fields file) (placedAt file place) ≡ flatMap (exactAt (fields file) (front (drop place file))) (placedParts (placedAt file place))
+pub candidates-read : (file : List ℕ) → length file ≤ 32768 → (amounts : List Field) (place : ℕ) →
+    candidateNumbers (fields file) amounts (placedAt file place) ≡ flatMap (exactAt (fields file) amounts (front (drop place file))) (placedParts (placedAt file place))
 unfolding candidateNumbers flatMap placed
-candidates-read file h place = go (whole (drop place file)) refl
+candidates-read file h amounts place = go (whole (drop place file)) refl
   where
     go : (w : Bool) → whole (drop place file) ≡ w →
-        candidateNumbers (fields file) (placedAt file place) ≡ flatMap (exactAt (fields file) (front (drop place file))) (placedParts (placedAt file place))
+        candidateNumbers (fields file) amounts (placedAt file place) ≡ flatMap (exactAt (fields file) amounts (front (drop place file))) (placedParts (placedAt file place))
     go true w =
-        exact-row file h (front (drop place file)) (place + 3) (parts (front (drop place file)))
+        exact-row file h amounts (front (drop place file)) (place + 3) (parts (front (drop place file)))
         (omega (
           arith,
           parts-inside (front (drop place file)),

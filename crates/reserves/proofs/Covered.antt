@@ -1,8 +1,9 @@
 -- The first candidate whose amount equals the payout's and whose field holds the token is the first guard that covers: of the
--- guards that are no candidates none can cover, since equal amounts are lowered by the same assignments.
-use Prim.Native.Nat.{ℕ, zero, suc, _+_, _≤_}
+-- guards that are no candidates none can cover, since the payout asks for its amount, and equal amounts are lowered by the same
+-- assignments.
+use Prim.Native.Nat.{ℕ, zero, suc, _+_, _≤_, _<_}
 use mathlib.Core.Path.{_≡_, refl, sym, ap, _∙_}
-use mathlib.Core.Bool.{Bool, true, false, cond, _&&_, _||_}
+use mathlib.Core.Bool.{Bool, true, false, cond, _&&_, _||_, and-false}
 use mathlib.Core.List.{List, [], _∷_, _++_, map, flatMap}
 use mathlib.Core.Option.{some}
 use lib.Dec.{eqb}
@@ -23,9 +24,11 @@ use Rattle.equality.proofs.Equality.{expr-symmetric, expr-transitive}
 use Rattle.reserve_tokens.specs.ReserveTokens.{reserveToken}
 use Rattle.reserves.specs.Reserves.{containsInflow, guardedField, guardedAmount, guardedBy, loweredBy, lowers, reserveCovers, reserveBoundingPayout}
 use Rattle.reserves.specs.Candidates.{counts, stateIndex, candidateNumbers}
-use Rattle.reserves.specs.Holding.{askedToken, stateName, isToken, holdsToken}
+use Rattle.reserves.specs.Asked.{askedToken, askedAmount, askedAmounts}
+use Rattle.reserves.specs.Holding.{stateName, isToken, holdsToken}
 use Rattle.reserves.specs.Covers.{reserveOf, amountAt, equalFrom}
 use Rattle.reserves.proofs.General.{or-right, any-same, find-none, find-same, every-weaker}
+use Rattle.reserves.proofs.Paid.{asked-among}
 use Rattle.reserves.proofs.Counting.{exactAt, candidates-read}
 use Rattle.reserves.specs.declared.covering.Reserve.{Reserve}
 use Rattle.reserves.specs.declared.covering.Reserve.the-variants.{Covers, Nothing}
@@ -78,15 +81,19 @@ equal-first file amount holds (n ∷ i ∷ l) = go (exprEq (amountAt file n) amo
 
 -- The tests of the table's guards and those of a covering field
 
-same-tests : (t s l m q h i : Bool) → (q ≡ true → l ≡ m) → (s ≡ true → h ≡ i) → t && (s && l) && (q && h) ≡ t && (q && (s && m && i))
-same-tests false s l m q h i f g = refl
-same-tests true false l m true h i f g = refl
-same-tests true false l m false h i f g = refl
-same-tests true true true m false h i f g = refl
-same-tests true true false m false h i f g = refl
-same-tests true true l m true h i f g = rw (f refl, g refl)
+last-two : (m s h i : Bool) → (s ≡ true → h ≡ i) → m && s && h ≡ s && m && i
+last-two true true h i g = g refl
+last-two true false h i g = refl
+last-two false true h i g = refl
+last-two false false h i g = refl
 
-module _ (file asked : List ℕ) (k : ℕ) (e amount : Field) where
+same-tests : (t a l m s q h i : Bool) → (q ≡ true → a ≡ true) → (q ≡ true → l ≡ m) → (s ≡ true → h ≡ i) →
+    t && (a && l && s) && (q && h) ≡ t && (q && (s && m && i))
+same-tests false a l m s q h i d f g = refl
+same-tests true a l m s false h i d f g = and-false (a && l && s)
+same-tests true a l m s true h i d f g = rw (d refl, f refl) (last-two m s h i g)
+
+module _ (file asked : List ℕ) (k : ℕ) (e amount : Field) (amounts : List Field) (own : (x : Field) → exprEq x amount ≡ true → any (exprEq x) amounts ≡ true) where
   abbrev held : List ℕ → Bool
   held r = isToken (reserveToken (fields file) r) (askedToken file asked k)
 
@@ -138,48 +145,33 @@ module _ (file asked : List ℕ) (k : ℕ) (e amount : Field) where
     unfolding holdsToken stateName stateIndex
     by-name i = rw (named-there r (stateNames (fields file)) i)
 
-    tests : eqb (tag f) Guard && counts (fields file) e (part 0 f) && (bounds (part 0 f) && holds (stateIndex (fields file) r))
+    tests : eqb (tag f) Guard && counts (fields file) amounts e (part 0 f) && (bounds (part 0 f) && holds (stateIndex (fields file) r))
         ≡ eqb (tag f) Guard && (bounds (part 0 f) && covers r)
     unfolding counts
     tests =
-        same-tests (eqb (tag f) Guard) (any (sameBytes r) (stateNames (fields file)))
-        (any (lowers (guardedAmount (part 0 f)) r) (body e)) (any (lowers amount r) (body e))
+        same-tests (eqb (tag f) Guard) (any (exprEq (guardedAmount (part 0 f))) amounts)
+        (any (lowers (guardedAmount (part 0 f)) r) (body e)) (any (lowers amount r) (body e)) (any (sameBytes r) (stateNames (fields file)))
         (bounds (part 0 f)) (holds (stateIndex (fields file) r)) (held r)
+        (own (guardedAmount (part 0 f)))
         (λ q. any-same (lowers (guardedAmount (part 0 f)) r) (lowers amount r) (lowers-same (guardedAmount (part 0 f)) amount q r) (body e))
         by-name
 
-    one-part : (l : List ℕ) → firstOf file amount holds (exactAt (fields file) e (record { place = n; this = f }) ++ l)
+    one-part : (l : List ℕ) → firstOf file amount holds (exactAt (fields file) amounts e (record { place = n; this = f }) ++ l)
         ≡ cond (eqb (tag f) Guard && (bounds (part 0 f) && covers r)) (Covers (stateIndex (fields file) r)) (firstOf file amount holds l)
     unfolding exactAt
     one-part l =
-        numbers-step (eqb (tag f) Guard && counts (fields file) e (part 0 f)) n (stateIndex (fields file) r) l
+        numbers-step (eqb (tag f) Guard && counts (fields file) amounts e (part 0 f)) n (stateIndex (fields file) r) l
         ∙ rw (at-place, tests)
 
   -- all parts
   searched : (n : ℕ) (fs : Fields) → Every (Stands file) (placed n fs) →
-      firstOf file amount holds (flatMap (exactAt (fields file) e) (placed n fs)) ≡ answer (fieldsFrom Guard Guard fs)
+      firstOf file amount holds (flatMap (exactAt (fields file) amounts e) (placed n fs)) ≡ answer (fieldsFrom Guard Guard fs)
   unfolding firstOf flatMap placed fieldsFrom filter row find reserveOf
   searched n (end r) s = refl
   searched n (next f fs) s =
-      one-part n f (s .0) (flatMap (exactAt (fields file) e) (placed (n + size f) fs))
+      one-part n f (s .0) (flatMap (exactAt (fields file) amounts e) (placed (n + size f) fs))
       ∙ rw (searched (n + size f) fs (s .1), ← between-one Guard (tag f))
       (sym (answer-step (between Guard Guard (tag f)) f (fieldsFrom Guard Guard fs)))
-
--- The entry at a place of the file
-
-module _ (file : List ℕ) (place : ℕ) (asked : List ℕ) (k : ℕ) (amount : Field) where
-  abbrev entry : Field
-  entry = front (drop place file)
-
-  -- what is asked
-  abbrev pub bounding : Reserve
-  bounding = reserveOf (fields file) (reserveBoundingPayout (fields file) entry amount (askedToken file asked k))
-
-  entry-searched : length file ≤ 32768 → firstOf file amount (λ i. holdsToken file asked i k) (candidateNumbers (fields file) (placedAt file place))
-      ≡ answer file asked k entry amount (fieldsFrom Guard Guard (parts entry))
-  entry-searched small =
-      rw (candidates-read file small place)
-      (searched file asked k entry amount (place + 3) (parts entry) (parts-stand file (placedAt file place) refl))
 
 -- Every field that a guard bounds the amount by is among those
 
@@ -196,22 +188,54 @@ regrouped true true t u = refl
 regrouped true false t u = refl
 regrouped false l t u = refl
 
-module _ (file : List ℕ) (place : ℕ) (asked : List ℕ) (k : ℕ) (amount : Field) where
-  pub none-contained : containsInflow (front (drop place file)) amount ≡ false → Nothing ≡ bounding file place asked k amount
-  unfolding reserveBoundingPayout reserveCovers reserveOf
-  none-contained i =
-      rw (find-none (reserveCovers (fields file) (front (drop place file)) amount (askedToken file asked k)) (λ r. rw i) (guardedBy (front (drop place file)) amount))
+-- The entry at a place of the file
 
-  pub all-contained : length file ≤ 32768 → containsInflow (front (drop place file)) amount ≡ true →
-      firstOf file amount (λ i. holdsToken file asked i k) (candidateNumbers (fields file) (placedAt file place)) ≡ bounding file place asked k amount
-  unfolding reserveBoundingPayout reserveCovers guardedBy guards isToken
-  all-contained small i =
-      entry-searched file place asked k amount small
-      ∙ ap (reserveOf (fields file))
-      (find-same (covers file asked k (front (drop place file)) amount) (reserveCovers (fields file) (front (drop place file)) amount (askedToken file asked k))
-      (guardedBy (front (drop place file)) amount)
-      (every-weaker (λ r. any (sameBytes r) (guardedBy (front (drop place file)) amount) ≡ true)
-      (λ r. covers file asked k (front (drop place file)) amount r ≡ reserveCovers (fields file) (front (drop place file)) amount (askedToken file asked k) r)
-      (λ r a. rw (i, a) (regrouped (any (sameBytes r) (stateNames (fields file))) (any (lowers amount r) (body (front (drop place file))))
-      (known (askedToken file asked k)) (sameBytes (reserveToken (fields file) r) (askedToken file asked k))))
-      (guardedBy (front (drop place file)) amount) (each-among (guardedBy (front (drop place file)) amount))))
+module _ (file : List ℕ) (place : ℕ) (asked : List ℕ) (k : ℕ) where
+  abbrev entry : Field
+  entry = front (drop place file)
+
+  abbrev amount : Field
+  amount = askedAmount file asked k
+
+  abbrev named : List (List ℕ)
+  named = guardedBy entry amount
+
+  abbrev covering : List ℕ → Bool
+  covering r = reserveCovers (fields file) entry amount (askedToken file asked k) r
+
+  -- what is asked
+  abbrev pub bounding : Reserve
+  bounding = reserveOf (fields file) (reserveBoundingPayout (fields file) entry amount (askedToken file asked k))
+
+  pub none-contained : containsInflow entry amount ≡ false → Nothing ≡ bounding
+  unfolding reserveBoundingPayout reserveCovers reserveOf
+  none-contained i = rw (find-none covering (λ r. rw i) named)
+
+  module _ (count : ℕ) (among : k < count) (room : count ≤ length asked) where
+    abbrev amounts : List Field
+    amounts = askedAmounts file asked count
+
+    own : (x : Field) → exprEq x amount ≡ true → any (exprEq x) amounts ≡ true
+    own x = asked-among file asked count k among room (exprEq x)
+
+    abbrev test : List ℕ → Bool
+    test = covers file asked k entry amount amounts own
+
+    abbrev first : Reserve
+    first = firstOf file amount (λ i. holdsToken file asked i k) (candidateNumbers (fields file) amounts (placedAt file place))
+
+    entry-searched : length file ≤ 32768 → first ≡ answer file asked k entry amount amounts own (fieldsFrom Guard Guard (parts entry))
+    entry-searched small =
+        rw (candidates-read file small amounts place)
+        (searched file asked k entry amount amounts own (place + 3) (parts entry) (parts-stand file (placedAt file place) refl))
+
+    pub all-contained : length file ≤ 32768 → containsInflow entry amount ≡ true → first ≡ bounding
+    unfolding reserveBoundingPayout reserveCovers guardedBy guards isToken
+    all-contained small i =
+        entry-searched small
+        ∙ ap (reserveOf (fields file))
+        (find-same test covering named
+        (every-weaker (λ r. any (sameBytes r) named ≡ true) (λ r. test r ≡ covering r)
+        (λ r a. rw (i, a) (regrouped (any (sameBytes r) (stateNames (fields file))) (any (lowers amount r) (body entry))
+        (known (askedToken file asked k)) (sameBytes (reserveToken (fields file) r) (askedToken file asked k))))
+        named (each-among named)))

@@ -151,11 +151,16 @@ first-that-covers = refl
 -- The table of candidates
 
 -- of the entry behind `before`, which takes 106 bytes; 24 stand before the entry's first guard, and a guard takes 33
-numbers : List (List ℕ) → List (List ℕ)
+numbers : List (List ℕ) → List (List ℕ) → List (List ℕ)
 unfolding any filter sameBytes position fields fieldsTo nth composite size sizes placed row fieldsFrom flatMap isAssign isExpression isStatement isWrapper stateNames body peel peelFirst walk walkParts ident exprEq partsEq strip sameText guardedField guardedAmount assigns value containsWrapping setsFrom loweredBy lowers counts stateIndex numbersAt candidateNumbers
-numbers bodies = map (λ c. candidateNumbers (fields (before ++ taking c)) (placedAt (before ++ taking c) (length before))) bodies
+numbers amounts bodies = map (λ c. candidateNumbers (fields (before ++ taking c)) (map front amounts) (placedAt (before ++ taking c) (length before))) bodies
 
--- one guard that counts, its place and the number of r; none; two guards, of which the first does not count
-listed : numbers ((guarded ++ lowered) ∷ guarded ∷ (guard (write Ge (s ++ double)) ++ (guarded ++ lowered)) ∷ []) ≡ (130 ∷ 1 ∷ []) ∷ [] ∷ (163 ∷ 1 ∷ []) ∷ []
+-- one guard that counts, its place and the number of r; none; two guards, of which the first does not count; asked for behind n
+listed : numbers (n ∷ double ∷ []) ((guarded ++ lowered) ∷ guarded ∷ (guard (write Ge (s ++ double)) ++ (guarded ++ lowered)) ∷ []) ≡ (130 ∷ 1 ∷ []) ∷ [] ∷ (163 ∷ 1 ∷ []) ∷ []
 unfolding numbers
 listed = refl
+
+-- a guard whose amount nobody asks for
+unasked : numbers (n ∷ amountOf "b" ∷ []) ((guarded ++ lowered) ∷ []) ≡ [] ∷ []
+unfolding numbers
+unasked = refl

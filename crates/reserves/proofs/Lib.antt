@@ -1,5 +1,6 @@
 pub mod General
 pub mod Members
+pub mod Paid
 pub mod Pairs
 pub mod Remembering
 pub mod Counting

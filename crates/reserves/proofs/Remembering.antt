@@ -7,7 +7,8 @@ use native.Mathlib.Omega.{arith}
 use lib.ListN.{getD, set, replicate}
 use Rattle.fields.specs.Field.{fields}
 use Rattle.reserve_tokens.specs.ReserveTokens.{reserveToken}
-use Rattle.reserves.specs.Holding.{askedToken, stateName, isToken, holdsToken, said, Numbered, Right}
+use Rattle.reserves.specs.Asked.{askedToken}
+use Rattle.reserves.specs.Holding.{stateName, isToken, holdsToken, said, Numbered, Right}
 
 -- what holds of a table's number holds after another was written, if it holds of that one too
 written-or-kept : (P : ℕ → Type 0) (l : List ℕ) (i n j : ℕ) → P (getD l j 0) → (j ≡ i → P n) → P (getD (set l i n) j 0)

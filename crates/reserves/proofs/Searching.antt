@@ -12,6 +12,7 @@ use lib.Seq.{length-take-le}
 use Rattle.fields.specs.Field.{Field, front}
 use Rattle.equality.specs.Equality.{exprEq}
 use Rattle.reserves.specs.Reserves.{containsInflow}
+use Rattle.reserves.specs.Asked.{askedAmount}
 use Rattle.reserves.specs.Candidates.{Candidates}
 use Rattle.reserves.specs.Holding.{holdsToken, Right}
 use Rattle.reserves.specs.Covers.{amountAt, equalFrom}
@@ -19,8 +20,8 @@ use Rattle.reserves.specs.declared.covering.Reserve.the-variants.{Covers
 use Rattle.reserves.proofs.Pairs.{next-two}
 use Rattle.reserves.proofs.Covered.{bounding, firstOf, equal-first, none-contained, all-contained}
 
-pub candidates-room : (file : List ℕ) (place : ℕ) (l : List ℕ) (n : ℕ) → Candidates file place l n → n ≤ length l
-candidates-room file place l n v =
+pub candidates-room : (file : List ℕ) (place : ℕ) (asked : List ℕ) (count : ℕ) (l : List ℕ) (n : ℕ) → Candidates file place asked count l n → n ≤ length l
+candidates-room file place asked count l n v =
     omega (arith, v .many, length-take n l, ap (λ m. length m) (v .all))
 
 module _ (file : List ℕ) (amount : Field) where
@@ -70,37 +71,39 @@ pub record Searching (file : List ℕ) (place : ℕ) (amount asked : List ℕ) (
   pub right : Right file asked count table
   pub wide : length table ≡ length before
   pub here : equalFrom file (front amount) (drop i (take n l)) ≡ drop i (take n l)
-  pub left : firstOf file (front amount) (λ j. holdsToken file asked j k) (drop i (take n l)) ≡ bounding file place asked k (front amount)
+  pub left : firstOf file (front amount) (λ j. holdsToken file asked j k) (drop i (take n l)) ≡ bounding file place asked k
 
-module _ (file : List ℕ) (place : ℕ) (amount asked : List ℕ) (count k : ℕ) (l : List ℕ) (n : ℕ) (v : Candidates file place l n)
-    (small : length file ≤ 32768) (i : ℕ) (e : drop i (take n l) ≡ equalFrom file (front amount) (drop 0 (take n l))) where
+module _ (file : List ℕ) (place : ℕ) (amount asked : List ℕ) (count k : ℕ) (l : List ℕ) (n : ℕ) (v : Candidates file place asked count l n)
+    (among : k < count) (small : length file ≤ 32768) (d : front amount ≡ askedAmount file asked k)
+    (i : ℕ) (e : drop i (take n l) ≡ equalFrom file (front amount) (drop 0 (take n l))) where
   found-first : containsInflow (front (drop place file)) (front amount) ≡ true →
-      firstOf file (front amount) (λ j. holdsToken file asked j k) (drop i (take n l)) ≡ bounding file place asked k (front amount)
+      firstOf file (front amount) (λ j. holdsToken file asked j k) (drop i (take n l)) ≡ bounding file place asked k
   found-first c =
-      rw (e, equal-first file (front amount) (λ j. holdsToken file asked j k) (take n l), v .all) (all-contained file place asked k (front amount) small c)
+      rw (e, equal-first file (front amount) (λ j. holdsToken file asked j k) (take n l), v .all, d)
+      (all-contained file place asked k count among (v .room) small (rw d at c))
 
-  pub none-equal : n ≤ i → Nothing ≡ bounding file place asked k (front amount)
+  pub none-equal : n ≤ i → Nothing ≡ bounding file place asked k
   unfolding firstOf
   none-equal h = go (containsInflow (front (drop place file)) (front amount)) refl
     where
       gone : drop i (take n l) ≡ []
-      gone = drop-of-length-le (take n l) {i = i} (omega (arith, length-take-le n l (candidates-room file place l n v)))
+      gone = drop-of-length-le (take n l) {i = i} (omega (arith, length-take-le n l (candidates-room file place asked count l n v)))
 
-      go : (c : Bool) → containsInflow (front (drop place file)) (front amount) ≡ c → Nothing ≡ bounding file place asked k (front amount)
+      go : (c : Bool) → containsInflow (front (drop place file)) (front amount) ≡ c → Nothing ≡ bounding file place asked k
       go true c = rw gone at (found-first c)
-      go false c = none-contained file place asked k (front amount) c
+      go false c = none-contained file place asked k (rw d at c)
 
   module _ (x : List ℕ) (f : x ≡ drop place file) (b : Bool) (g : b ≡ containsInflow (front x) (front amount)) where
     contained : b ≡ containsInflow (front (drop place file)) (front amount)
     contained = g ∙ ap (λ s. containsInflow (front s) (front amount)) f
 
-    pub no-inflow : not b ≡ true → Nothing ≡ bounding file place asked k (front amount)
-    no-inflow h = none-contained file place asked k (front amount) (sym contained ∙ not-true b h)
+    pub no-inflow : not b ≡ true → Nothing ≡ bounding file place asked k
+    no-inflow h = none-contained file place asked k (rw d at (sym contained ∙ not-true b h))
 
     pub searching-first : not b ≡ false → i ≤ n → (table : List ℕ) → Right file asked count table → Searching file place amount asked count k l n table table i
     searching-first h m table r = record {
       within = m;
-      room = candidates-room file place l n v;
+      room = candidates-room file place asked count l n v;
       right = r;
       wide = refl;
       here = rw e (equal-again file (front amount) (take n l));
@@ -109,7 +112,7 @@ module _ (file : List ℕ) (place : ℕ) (amount asked : List ℕ) (count k : �
 
 module _ (file : List ℕ) (place : ℕ) (amount asked : List ℕ) (count k : ℕ) (l : List ℕ) (n : ℕ) (before table : List ℕ) (i : ℕ)
     (v : Searching file place amount asked count k l n before table i) where
-  pub searching-none : n ≤ i → Nothing ≡ bounding file place asked k (front amount)
+  pub searching-none : n ≤ i → Nothing ≡ bounding file place asked k
   unfolding firstOf
   searching-none h =
       rw (drop-of-length-le (take n l) {i = i} (omega (arith, length-take-le n l (v .room)))) at (v .left)
@@ -133,11 +136,11 @@ module _ (file : List ℕ) (place : ℕ) (amount asked : List ℕ) (count k : �
     equal = starts file (front amount) (getD l i 0) (getD l (i + 1) 0) (drop (i + 2) (take n l)) (rw two at (v .here))
 
     module _ (j : ℕ) (e : j ≡ getD l (i + 1) 0) (b : Bool) (f : b ≡ holdsToken file asked j k) where
-      step : cond b (Covers j) (firstOf file (front amount) (λ m. holdsToken file asked m k) (drop (i + 2) (take n l))) ≡ bounding file place asked k (front amount)
+      step : cond b (Covers j) (firstOf file (front amount) (λ m. holdsToken file asked m k) (drop (i + 2) (take n l))) ≡ bounding file place asked k
       unfolding firstOf
       step = rw (f, e) (rw (two, equal) at (v .left))
 
-      pub searching-found : b ≡ true → Covers j ≡ bounding file place asked k (front amount)
+      pub searching-found : b ≡ true → Covers j ≡ bounding file place asked k
       searching-found o = rw o at step
 
       pub searching-on : b ≡ false → (u : ℕ) → drop u (take n l) ≡ equalFrom file (front amount) (drop (i + 2) (take n l)) → u ≤ n →

@@ -1,5 +1,5 @@
 -- The guards of an entry that can matter for a payout, as numbers of two bytes in a lent table.
-use Prim.Native.Nat.{ℕ, _%_}
+use Prim.Native.Nat.{ℕ, _%_, _≤_}
 use mathlib.Core.Path.{_≡_}
 use mathlib.Core.Bool.{Bool, cond, _&&_}
 use mathlib.Core.List.{List, [], _∷_, flatMap}
@@ -10,11 +10,17 @@ use Rattle.tags.specs.Tag.{Guard}
 use Rattle.fields.specs.Field.{Field, Fields, Placed, fields, tag, part, placedParts}
 use Rattle.questions.specs.Model.{stateNames, body}
 use Rattle.walking.specs.Table.{placedAt}
+use Rattle.equality.specs.Equality.{exprEq}
 use Rattle.reserves.specs.Reserves.{guardedField, guardedAmount, lowers}
+use Rattle.reserves.specs.Asked.{askedAmounts}
 
--- a guard's expression bounds an amount by a state field, which some statement of the body lowers by that amount
-unfoldable pub counts : Fields → Field → Field → Bool
-counts model entry g = any (sameBytes (guardedField g)) (stateNames model) && any (lowers (guardedAmount g) (guardedField g)) (body entry)
+-- a guard's expression bounds one of the amounts that are asked for by a state field, which some statement of the body lowers
+-- by that amount
+unfoldable pub counts : Fields → List Field → Field → Field → Bool
+counts model amounts entry g =
+    any (exprEq (guardedAmount g)) amounts
+    && any (lowers (guardedAmount g) (guardedField g)) (body entry)
+    && any (sameBytes (guardedField g)) (stateNames model)
 
 -- the number of a state field of that name
 unfoldable pub stateIndex : Fields → List ℕ → ℕ
@@ -22,16 +28,17 @@ stateIndex model r = position (sameBytes r) (stateNames model)
 
 -- what is written of a part of the entry: where it is a guard that counts, its place and the number of its state field; up to
 -- 65,535 those are the numbers themselves (proofs/Counting.antt)
-unfoldable pub numbersAt : Fields → Field → Placed → List ℕ
-numbersAt model entry p =
-    cond (eqb (tag (p .this)) Guard && counts model entry (part 0 (p .this)))
+unfoldable pub numbersAt : Fields → List Field → Field → Placed → List ℕ
+numbersAt model amounts entry p =
+    cond (eqb (tag (p .this)) Guard && counts model amounts entry (part 0 (p .this)))
     (p .place % 65536 ∷ stateIndex model (guardedField (part 0 (p .this))) % 65536 ∷ []) []
 
 -- of all parts of the entry
-unfoldable pub candidateNumbers : Fields → Placed → List ℕ
-candidateNumbers model entry = flatMap (numbersAt model (entry .this)) (placedParts entry)
+unfoldable pub candidateNumbers : Fields → List Field → Placed → List ℕ
+candidateNumbers model amounts entry = flatMap (numbersAt model amounts (entry .this)) (placedParts entry)
 
--- a table holds them all, in front
-pub record Candidates (file : List ℕ) (place : ℕ) (table : List ℕ) (count : ℕ) : Type 0 where
-  pub all : take count table ≡ candidateNumbers (fields file) (placedAt file place)
-  pub many : count ≡ length (candidateNumbers (fields file) (placedAt file place))
+-- a table holds them all, in front, for the payouts that ask
+pub record Candidates (file : List ℕ) (place : ℕ) (asked : List ℕ) (askedCount : ℕ) (table : List ℕ) (count : ℕ) : Type 0 where
+  pub room : askedCount ≤ length asked
+  pub all : take count table ≡ candidateNumbers (fields file) (askedAmounts file asked askedCount) (placedAt file place)
+  pub many : count ≡ length (candidateNumbers (fields file) (askedAmounts file asked askedCount) (placedAt file place))

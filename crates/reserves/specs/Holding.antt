@@ -3,16 +3,12 @@ use Prim.Native.Nat.{ℕ, zero, suc, _<_}
 use mathlib.Core.Path.{_≡_}
 use mathlib.Core.Bool.{Bool, false, _&&_}
 use mathlib.Core.List.{List, []}
-use lib.ListN.{getD, drop}
+use lib.ListN.{getD}
 use Rattle.fields.specs.Lists.{sameBytes, known}
-use Rattle.fields.specs.Field.{fields, front, part}
+use Rattle.fields.specs.Field.{fields}
 use Rattle.questions.specs.Model.{stateNames}
-use Rattle.walking.specs.Walking.{peel, ident}
 use Rattle.reserve_tokens.specs.ReserveTokens.{reserveToken}
-
--- the k-th token that is asked for: the first argument, peeled, if an identifier, of the call at the k-th place of the table
-unfoldable pub askedToken : (file asked : List ℕ) → ℕ → List ℕ
-askedToken file asked k = ident (peel (part 1 (front (drop (getD asked k 0) file))))
+use Rattle.reserves.specs.Asked.{askedToken}
 
 -- the name of the i-th state field
 unfoldable pub stateName : List ℕ → ℕ → List ℕ

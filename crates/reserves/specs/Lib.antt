@@ -1,5 +1,7 @@
+pub mod Payouts
 pub mod Reserves
 pub mod Members
+pub mod Asked
 pub mod Candidates
 pub mod Holding
 pub mod Covers

@@ -3,6 +3,7 @@
 use super::contained::contains_inflow;
 use super::guarded::guarded_amount;
 use super::holding::holds_token;
+use super::payout::asked_amount;
 use equality::expr_eq;
 use fields::bytes::skip;
 use fields::front::part_of;
@@ -14,7 +15,8 @@ ghost use Rattle.fields.specs.Field.{fields, front};
 ghost use Rattle.tokens.specs.Fundings.{Fundings};
 ghost use Rattle.reserves.specs.Reserves.{reserveBoundingPayout};
 ghost use Rattle.reserves.specs.Candidates.{Candidates};
-ghost use Rattle.reserves.specs.Holding.{askedToken, Right};
+ghost use Rattle.reserves.specs.Asked.{askedToken, askedAmount};
+ghost use Rattle.reserves.specs.Holding.{Right};
 ghost use Rattle.reserves.specs.Covers.{reserveOf, amountAt, equalFrom};
 
 // The state field of that number covers the payout, or none does.
@@ -48,12 +50,11 @@ fn first_equal(file: &[u8], amount: &[u8], candidates: &[u16], count: usize, fro
     count
 }
 
-// The state field of the first candidate that covers the amount for the k-th token that is asked for. One whose field does not
-// cover does not stop the search.
+// The state field of the first candidate that covers the k-th payout's amount for its token. One whose field does not cover
+// does not stop the search.
 pub fn reserve_bounding_payout(
     file: &[u8],
     place: usize,
-    amount: &[u8],
     asked: &[u16],
     count: usize,
     k: usize,
@@ -65,13 +66,13 @@ pub fn reserve_bounding_payout(
 ) -> Reserve
     requires short { ⌜ length (now file) ≤ 32768 ⌝ }
     requires fundings { ⌜ Fundings (now file) (now fundings) «fundings_count» ⌝ }
-    requires amount { ⌜ length (now amount) ≤ 32768 ⌝ }
     requires among { ⌜ k < count ⌝ }
-    requires listed { ⌜ Candidates (now file) place (now candidates) «candidate_count» ⌝ }
+    requires listed { ⌜ Candidates (now file) place (now asked) count (now candidates) «candidate_count» ⌝ }
     requires right { ⌜ Right (now file) (now asked) count (now known) ⌝ }
-    ensures found { λ r. ⌜ r ≡ reserveOf (fields (now (file .entry))) (reserveBoundingPayout (fields (now (file .entry))) (front (drop place (now (file .entry)))) (front (now (amount .entry))) (askedToken (now (file .entry)) (now (asked .entry)) k)) ⌝ }
+    ensures found { λ r. ⌜ r ≡ reserveOf (fields (now (file .entry))) (reserveBoundingPayout (fields (now (file .entry))) (front (drop place (now (file .entry)))) (askedAmount (now (file .entry)) (now (asked .entry)) k) (askedToken (now (file .entry)) (now (asked .entry)) k)) ⌝ }
     ensures right { λ r. ⌜ Right (now (file .entry)) (now (asked .entry)) count (now (known .exit)) ⌝ }
 {
+    let amount = asked_amount(file, asked, k);
     let mut i = first_equal(file, amount, candidates, candidate_count, 0);
     if candidate_count <= i {
         return Reserve::Nothing;

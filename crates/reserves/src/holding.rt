@@ -1,34 +1,24 @@
 // SPDX-License-Identifier: Apache-2.0 OR MIT
 // Whether a state field holds a token that is asked for. A field's token is worked out once and then remembered, in a table
 // that the caller lends, as a number: 0 not worked out, 1 none of the tokens asked for, j + 2 the j-th of them.
+use super::payout::asked_token;
 use fields::bytes::same_bytes;
-use fields::bytes::skip;
 use fields::front::nth_from;
-use fields::front::part_of;
 use fields::table::number_at;
 use questions::state::name_of;
 use reserve_tokens::reserve::reserve_token;
 use tags::STATE;
-use walking::peel::peel;
-use walking::shape::ident;
 ghost use mathlib.Core.Path.{_≡_};
 ghost use Prim.Native.Nat.{_≤_, _<_};
 ghost use lib.ListN.{length, set};
 ghost use Rattle.tokens.specs.Fundings.{Fundings};
-ghost use Rattle.reserves.specs.Holding.{askedToken, stateName, isToken, holdsToken, Right, Numbered};
+ghost use Rattle.reserves.specs.Holding.{stateName, isToken, holdsToken, Right, Numbered};
 
 // The name of the state field of that number; no bytes where there is none.
 pub fn state_name(file: &[u8], index: usize) -> &[u8]
     ensures { λ r. ⌜ now r ≡ stateName (now (file .entry)) index ⌝ }
 {
     name_of(nth_from(file, STATE, STATE, index))
-}
-
-// The token asked for by number k.
-fn asked_token<'a>(file: &'a [u8], asked: &[u16], k: usize) -> &'a [u8]
-    ensures { λ r. ⌜ now r ≡ askedToken (now (file .entry)) (now (asked .entry)) k ⌝ }
-{
-    ident(peel(part_of(skip(file, number_at(asked, k)), 1)))
 }
 
 // Whether u is a known token and t.

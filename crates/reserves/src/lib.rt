@@ -5,3 +5,4 @@ pub mod covering;
 pub mod guarded;
 pub mod holding;
 pub mod lowering;
+pub mod payout;

@@ -3,7 +3,7 @@
 use Prim.Native.Nat.{ℕ, _-_, _%_, _≤_, _<_}
 use mathlib.Core.Path.{_≡_, refl, sym, ap, _∙_}
 use mathlib.Core.Bool.{true, false, _&&_, and-false}
-use mathlib.Core.List.{List, [], flatMap}
+use mathlib.Core.List.{List, [], map, flatMap}
 use mathlib.Core.Option.{none}
 use native.Mathlib.Omega.{arith}
 use lib.ListN.{length, getD, take, drop, length-map, length-take, List·getD-eq-default}
@@ -16,14 +16,13 @@ use Rattle.questions.specs.Shown.{shown}
 use Rattle.walking.specs.Walking.{peel, ident, bodyExprs, exprs, payouts}
 use Rattle.walking.specs.Table.{placedAt, placesOf}
 use Rattle.reserves.specs.Reserves.{reserveCovers, reserveBoundingPayout, containsInflow, guardedBy, lowers}
-use Rattle.reserves.specs.Holding.{askedToken}
 use Rattle.reserves.specs.Covers.{reserveOf}
 use Rattle.reserves.specs.declared.covering.Reserve.{Reserve}
 use Rattle.reserves.specs.declared.covering.Reserve.the-variants.{Nothing}
 use Rattle.reserves.proofs.General.{find-none}
-use Rattle.matching.specs.Matching.{payoutToken, payoutAmount}
+use Rattle.reserves.specs.Payouts.{payoutToken}
+use Rattle.reserves.specs.Asked.{askedToken, paidAt, askedAmount}
 use Rattle.matching.specs.Tables.{entryOf}
-use Rattle.matching.proofs.Reading.{peel-within}
 use Rattle.verdict.specs.Calls.{wantedAt, chosenOf}
 use Rattle.claim.specs.Claim.{payoutAt}
 use Rattle.verdict.specs.Coded.{Calls}
@@ -33,7 +32,7 @@ use Rattle.verdict.proofs.Asking.{entry-missing, entry-there}
 use Rattle.verdict.proofs.Called.{wantedIn, wanted-counted, wanted-read, payouts-wanted}
 use Rattle.claim.proofs.Fitting.{few-pass}
 use Rattle.verdict.proofs.Placing.{calls-all}
-use Rattle.verdict.proofs.Running.{payout-there}
+use Rattle.verdict.proofs.Running.{table-long, payout-there}
 
 -- Nothing is asked for
 
@@ -56,10 +55,6 @@ unpaid model entry k e = rw (e, no-token, none-found model entry _)
 
 -- The payout at its place
 
-pub amount-short : (file : List ℕ) → length file ≤ 32768 → (n : ℕ) (s : List ℕ) → s ≡ drop n file → (x : List ℕ) → length x ≤ length s →
-    (j : ℕ) (y : List ℕ) → y ≡ drop j x → length y ≤ 32768
-amount-short file h n s e x g j y f = omega (arith, peel-within file s n e, peel-within x y j f)
-
 module _ (file : List ℕ) (short : length file ≤ 32768) (place : ℕ) (inside : place ≤ length file) (old calls : List ℕ) (count : ℕ)
     (listed : Listed (placesOf Call (bodyExprs (placedAt file place))) old 0 calls count) (long : length old ≡ 10923) (same : length calls ≡ length old) where
   l : Calls file place calls count
@@ -68,7 +63,7 @@ module _ (file : List ℕ) (short : length file ≤ 32768) (place : ℕ) (inside
   pub calls-fit : count ≤ length calls
   calls-fit = l .within
 
-  module _ (zeros table : List ℕ) (wide : length zeros ≡ 10923) (m : ℕ) (p : Listed (chosenOf file true (take count calls)) zeros 0 table m) (k : ℕ) where
+  module _ (zeros table : List ℕ) (wide : length zeros ≡ 10923) (m : ℕ) (p : Listed (chosenOf file true (take count calls)) zeros 0 table m) where
     abbrev model : Fields
     model = fields file
 
@@ -80,8 +75,8 @@ module _ (file : List ℕ) (short : length file ≤ 32768) (place : ℕ) (inside
         wanted-counted file place true (omega (arith, l .small)) calls count (l .listed) zeros table m p
         ∙ sym (length-map (wantedIn true (placedAt file place)) (λ q. q .this)) ∙ ap length (payouts-wanted (placedAt file place))
 
-    pub payout-missing : m ≤ k → Nothing ≡ reserveOf model (payoutReserve model entry k)
-    payout-missing h = unpaid model entry k (List·getD-eq-default (payouts entry) nothing (omega (arith, h, counted)))
+    pub payout-missing : (k : ℕ) → m ≤ k → Nothing ≡ reserveOf model (payoutReserve model entry k)
+    payout-missing k h = unpaid model entry k (List·getD-eq-default (payouts entry) nothing (omega (arith, h, counted)))
 
     few : m ≤ count
     unfolding chosenOf
@@ -94,18 +89,18 @@ module _ (file : List ℕ) (short : length file ≤ 32768) (place : ℕ) (inside
           length-take count calls,
         )
 
-    module _ (h : k < m) (n : ℕ) (e : n ≡ getD table k 0) (s : List ℕ) (f : s ≡ drop n file) where
-      this : front s ≡ payoutAt model entry k
-      this =
-          payout-there file place table m (wanted-read file place true (omega (arith, l .small)) calls count (l .listed) zeros table m p (omega (arith, few, calls-fit, same, long, wide)) ∙ payouts-wanted (placedAt file place)) counted k h s (f ∙ rw e)
+    read : map (λ j. front (drop j file)) (take m table) ≡ payouts entry
+    read =
+        wanted-read file place true (omega (arith, l .small)) calls count (l .listed) zeros table m p (omega (arith, few, calls-fit, same, long, wide))
+        ∙ payouts-wanted (placedAt file place)
 
-      pub payout-found : (x : List ℕ) → front x ≡ payoutAmount (front s) → (a : List ℕ) → front a ≡ peel (front x) →
-          (r : Reserve) → r ≡ reserveOf model (reserveBoundingPayout model (front (drop place file)) (front a) (askedToken file table k)) →
-          r ≡ reserveOf model (payoutReserve model entry k)
-      unfolding payoutReserve askedToken payoutToken
-      payout-found x g a i r j =
-          let q : askedToken file table k ≡ payoutToken (payoutAt model entry k) = rw (← e, ← f, this) in
-          j ∙ rw (i, g, this, q)
+    pub payouts-fit : m ≤ length table
+    payouts-fit = table-long file place table m read counted
+
+    pub payout-found : (k : ℕ) → k < m → (r : Reserve) → r ≡ reserveOf model (reserveBoundingPayout model (front (drop place file)) (askedAmount file table k) (askedToken file table k)) →
+        r ≡ reserveOf model (payoutReserve model entry k)
+    unfolding payoutReserve askedToken askedAmount paidAt
+    payout-found k h r j = j ∙ rw (payout-there file place table m read counted k h (drop (getD table k 0) file) refl)
 
 -- The entry at its place
 

@@ -5,7 +5,7 @@ use native.Mathlib.Nat.{zero-add, mod-eq-of-lt}
 use mathlib.Core.Path.{_≡_, refl, sym, ap, _∙_}
 use mathlib.Core.Bool.{Bool, true, false}
 use mathlib.Core.List.{List, [], _∷_, _++_, map, append-nil}
-use lib.ListN.{length, getD, take, drop, replicate, length-append, length-map, length-take, length-drop, length-replicate, drop-of-length-le, List·getD-map}
+use lib.ListN.{length, getD, take, drop, replicate, length-append, length-map, length-take, length-replicate, drop-of-length-le, List·getD-map}
 use lib.Seq.{sets, sets-eq, length-sets, take-at, drop-cons, getD-take, length-take-le}
 use Rattle.fields.specs.Field.{Field, Fields, fields, front, nothing}
 use Rattle.fields.specs.Table.{Listed}
@@ -13,9 +13,9 @@ use Rattle.walking.specs.Walking.{payouts}
 use Rattle.walking.specs.Table.{placedAt}
 use Rattle.tokens.specs.Fundings.{Fundings}
 use Rattle.reserves.specs.Candidates.{Candidates}
-use Rattle.reserves.specs.Holding.{askedToken, Right}
+use Rattle.reserves.specs.Holding.{Right}
 use Rattle.reserves.proofs.Remembering.{zeros-right}
-use Rattle.matching.specs.Matching.{Cover, Reason, Marks, Backing, backings, answer, start, payoutToken}
+use Rattle.matching.specs.Matching.{Cover, Reason, Marks, Backing, backings, answer, start}
 use Rattle.matching.specs.Matching.Answer.{cover, rejection}
 use Rattle.matching.specs.Tables.{Tabled, entryOf, backingsOf}
 use Rattle.matching.specs.Prepared.{Prepared}
@@ -99,17 +99,20 @@ map-at f (x ∷ l) zero d h = refl
 map-at f (x ∷ l) (suc k) d h = map-at f l k d (omega (arith, h))
 
 module _ (file : List ℕ) (place : ℕ) (table : List ℕ) (count : ℕ) (listed : map (λ j. front (drop j file)) (take count table) ≡ payouts (entryOf file place))
-    (counted : count ≡ length (payouts (entryOf file place))) (k : ℕ) (h : k < count) where
-  table-long : count ≤ length table
+    (counted : count ≡ length (payouts (entryOf file place))) where
+  pub table-long : count ≤ length table
   table-long =
       let e : length (take count table) ≡ count = sym (length-map (take count table) (λ j. front (drop j file))) ∙ ap length listed ∙ sym counted in
       omega (arith, rw length-take at e)
 
-  pub payout-there : (s : List ℕ) → s ≡ drop (getD table k 0) file → front s ≡ getD (payouts (entryOf file place)) k nothing
-  payout-there s f =
+  pub payout-there : (k : ℕ) → k < count → (s : List ℕ) → s ≡ drop (getD table k 0) file → front s ≡ getD (payouts (entryOf file place)) k nothing
+  payout-there k h s f =
       rw (f, ← listed)
       (sym (map-at (λ j. front (drop j file)) (take count table) k nothing (rw (length-take-le count table table-long) h)
       ∙ ap (λ j. front (drop j file)) (getD-take count table k 0 h)))
+
+pub payouts-room : (file : List ℕ) (place : ℕ) (table : List ℕ) (count : ℕ) → Payouts file place table count → count ≤ length table
+payouts-room file place table count l = table-long file place table count (l .listed) (l .counted)
 
 -- The pass so far
 
@@ -124,7 +127,7 @@ pub record Running (file : List ℕ) (place : ℕ) (table : List ℕ) (count : �
   pub uses : marks .uses ≤ k
   pub stands : Stands (backingsOf file place) marks state
   pub within : Within (fields file) (entryOf file place) state
-  pub listed : Candidates file place candidates candidateCount
+  pub listed : Candidates file place table count candidates candidateCount
   pub funded : Fundings file fundings fundingsCount
   pub right : Right file table count known
   pub long : length known ≡ 2979
@@ -134,7 +137,7 @@ pub record Running (file : List ℕ) (place : ℕ) (table : List ℕ) (count : �
       ≡ withCovers done (matchFrom (fields file) (entryOf file place) state k (drop k (payouts (entryOf file place))))
 
 module _ (file : List ℕ) (place : ℕ) (table : List ℕ) (count : ℕ) (debits : List ℕ) (debitCount total : ℕ) (candidates : List ℕ) (candidateCount : ℕ) (fundings : List ℕ) (fundingsCount : ℕ) where
-  pub running-none : Payouts file place table count → Tabled file place debits debitCount total → Candidates file place candidates candidateCount → Fundings file fundings fundingsCount → (m : Coded) → m ≡ allFree → Running file place table count debits debitCount total candidates candidateCount fundings fundingsCount (replicate 2979 0) (replicate 192 0) m 0
+  pub running-none : Payouts file place table count → Tabled file place debits debitCount total → Candidates file place table count candidates candidateCount → Fundings file fundings fundingsCount → (m : Coded) → m ≡ allFree → Running file place table count debits debitCount total candidates candidateCount fundings fundingsCount (replicate 2979 0) (replicate 192 0) m 0
   unfolding start matching sheet allFree
   running-none l d c o m e =
       let few : length (backingsOf file place) ≤ 64 = omega (arith, backings-many file place debits debitCount total d, d .few) in
@@ -182,13 +185,11 @@ module _ (file : List ℕ) (place : ℕ) (table : List ℕ) (count : ℕ) (debit
 
       -- what the answer needs
       pub running-prepared : Prepared file place debits debitCount total table count k candidates candidateCount fundings fundingsCount known s
-      unfolding askedToken payoutToken
       running-prepared =
           record {
             tabled = d;
-            short = rw (f, length-drop) (omega (arith, d .small));
             among = h;
-            token = rw f;
+            payout = ap front f;
             listed = v .listed;
             right = v .right;
             funded = v .funded;

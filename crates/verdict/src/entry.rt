@@ -163,7 +163,7 @@ fn match_payouts(
 ) -> Verdict
     requires tabled { ⌜ Tabled (now file) place (now backings) «debit_count» total ⌝ }
     requires listed { ⌜ Payouts (now file) place (now payouts) «payout_count» ⌝ }
-    requires candidates { ⌜ Candidates (now file) place (now candidates) «candidate_count» ⌝ }
+    requires candidates { ⌜ Candidates (now file) place (now payouts) «payout_count» (now candidates) «candidate_count» ⌝ }
     requires fundings { ⌜ Fundings (now file) (now fundings) «fundings_count» ⌝ }
     requires room { ⌜ 3 * «payout_count» ≤ length (now covers) ⌝ }
     ensures answer { λ r. ⌜ r ≡ coded (spare (entryOf (now (file .entry)) place)) (matching (fields (now (file .entry))) (entryOf (now (file .entry)) place)) ⌝ }
@@ -266,7 +266,7 @@ fn backed_verdict(
         };
     }
     let listed = list_parameters(file, place, &mut backings, debit_count);
-    let candidate_count = list_candidates(file, place, table);
+    let candidate_count = list_candidates(file, place, payouts, payout_count, table);
     let known = list_if_asked(
         file,
         debit_count,

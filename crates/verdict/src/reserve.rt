@@ -3,17 +3,13 @@
 // decides, and uses it up.
 use super::calls::choose;
 use super::entry::less;
-use fields::bytes::skip;
 use fields::front::is_whole;
-use fields::table::number_at;
-use matching::backing::payout_amount;
 use questions::model::nth_entry;
 use reserves::candidates::list_candidates;
 use reserves::covering::Reserve;
 use reserves::covering::reserve_bounding_payout;
 use tags::CALL;
 use tokens::ledger::NOT_LISTED;
-use walking::peel::peel;
 use walking::walk::list_body;
 ghost use mathlib.Core.Path.{_≡_};
 ghost use Prim.Native.Nat.{_≤_};
@@ -38,14 +34,12 @@ fn reserve_at(file: &[u8], place: usize, k: usize) -> Reserve
     if count <= k {
         return Reserve::Nothing;
     }
-    let amount = peel(payout_amount(skip(file, number_at(&payouts, k))));
-    let candidates = list_candidates(file, place, &mut table);
+    let candidates = list_candidates(file, place, &payouts, count, &mut table);
     let unlisted = [0u16; 1];
     let mut known = [0u16; 2979];
     reserve_bounding_payout(
         file,
         place,
-        amount,
         &payouts,
         count,
         k,

@@ -1,34 +1,42 @@
--- Both tests, of which the one that fails decides.
+-- The three tests, of which the first that fails decides.
 use Prim.Native.Nat.{ℕ}
-use mathlib.Core.Path.{_≡_, sym, _∙_}
-use mathlib.Core.Bool.{Bool, true, false, not, and-true, and-false}
+use mathlib.Core.Path.{_≡_, _∙_}
+use mathlib.Core.Bool.{Bool, true, false, not}
 use mathlib.Core.List.{List}
 use borrow.Author.Needs.{needs}
 use borrow.Author.Tests.{not-true, not-false}
 use Rattle.fields.specs.Lists.{any, sameBytes}
 use Rattle.fields.specs.Field.{Field, Fields, front}
 use Rattle.questions.specs.Model.{stateNames, body}
+use Rattle.equality.specs.Equality.{exprEq}
 use Rattle.reserves.specs.Reserves.{guardedField, guardedAmount, lowers}
 use Rattle.reserves.specs.Candidates.{counts}
 use Rattle.reserves.proofs.candidates.guard_counts.Statement.{statement}
 use Rattle.reserves.proofs.candidates.guard_counts.Tie as tie
 
-module _ (model : Fields) (entry g : Field) (n : List ℕ) (e : n ≡ guardedField g) (x : List ℕ) (i : front x ≡ guardedAmount g) (b : Bool) (f : b ≡ any (lowers (front x) n) (body entry)) where
-  not-lowered : not b ≡ true → false ≡ counts model entry g
+module _ (model : Fields) (amounts : List Field) (entry g : Field) (x : List ℕ) (i : front x ≡ guardedAmount g) (a : Bool) (d : a ≡ any (exprEq (front x)) amounts) where
+  not-asked : not a ≡ true → false ≡ counts model amounts entry g
   unfolding counts
-  not-lowered h = rw (← e, ← i, ← f, not-true b h) (sym (and-false (any (sameBytes n) (stateNames model))))
+  not-asked h = rw (← i, ← d, not-true a h)
 
-  by-state : not b ≡ false → (r : Bool) → r ≡ any (sameBytes n) (stateNames model) → r ≡ counts model entry g
-  unfolding counts
-  by-state h r k = k ∙ rw (← e, ← i, ← f, not-false b h) (sym (and-true (any (sameBytes n) (stateNames model))))
+  module _ (h : not a ≡ false) (n : List ℕ) (e : n ≡ guardedField g) (b : Bool) (f : b ≡ any (lowers (front x) n) (body entry)) where
+    not-lowered : not b ≡ true → false ≡ counts model amounts entry g
+    unfolding counts
+    not-lowered k = rw (← i, ← d, ← e, ← f, not-false a h, not-true b k)
+
+    by-state : not b ≡ false → (r : Bool) → r ≡ any (sameBytes n) (stateNames model) → r ≡ counts model amounts entry g
+    unfolding counts
+    by-state k r l = l ∙ rw (← i, ← d, ← e, ← f, not-false a h, not-false b k)
 
 pub guard-counts-spec : {M : Type 1} → statement M
 guard-counts-spec =
     tie.close
     (tie.spec
-    (λ c κs. search needs)  -- guarded-field-requires
     (λ c κs. search needs)  -- guarded-amount-requires
+    (λ c κs. search needs)  -- is-asked-requires
+    (λ c. search not-asked)  -- returns
+    (λ c κs. search needs)  -- guarded-field-requires
     (λ c κs. search needs)  -- is-lowered-requires
-    (λ c. search not-lowered)  -- returns
+    (λ c. search not-lowered)  -- returns-2
     (λ c κs. search needs)  -- has-state-requires
-    (λ c. search by-state))  -- returns-2
+    (λ c. search by-state))  -- returns-3

@@ -10,14 +10,15 @@ pub reserve-bounding-payout-spec : {M : Type 1} → statement M
 reserve-bounding-payout-spec =
     tie.close
     (tie.spec
-    (λ file place amount asked count k candidates candidate-count fundings fundings-count known₀ i₀ known i. Searching file place amount asked count k candidates candidate-count known₀ known i)  -- Inv-loop
-    (λ file place amount asked count k candidates candidate-count fundings fundings-count known₀ i₀ known i. candidate-count - i)  -- μ-loop
+    (λ file place asked count k candidates candidate-count fundings fundings-count known₀ amount i₀ known i. Searching file place amount asked count k candidates candidate-count known₀ known i)  -- Inv-loop
+    (λ file place asked count k candidates candidate-count fundings fundings-count known₀ amount i₀ known i. candidate-count - i)  -- μ-loop
+    (λ c κs. search needs)  -- asked-amount-requires
     (λ c κs. (omega arith, search candidates-room))  -- first-equal-requires
     (λ c. (search none-equal, search needs))  -- returns
     (λ c κs. search needs)  -- skip-requires
     (λ c κs. search needs)  -- contains-inflow-requires
     (λ c. (search no-inflow, search needs))  -- returns-2
-    (λ c. search searching-first)  -- loop-holds
+    (λ c. searching-first _ _ _ _ _ _ _ _ (search needs) (search needs) (search needs) (search needs) _ (search needs) _ (c .before .before .skip .ensures) _ (c .before .contains-inflow .ensures) (search needs) (search needs) _ (search needs))  -- loop-holds
     (λ c. omega arith)  -- add-number-at
     (λ c κs. search needs)  -- number-at-requires
     (λ c κs. (search needs, (search needs, (search needs, search needs))))  -- holds-token-requires

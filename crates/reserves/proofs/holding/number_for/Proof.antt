@@ -9,7 +9,8 @@ use native.Mathlib.Nat.{eq-or-lt-of-le}
 use borrow.Author.Needs.{needs}
 use Rattle.fields.specs.Lists.{known, sameBytes}
 use Rattle.fields.proofs.Texts.{bytes-equal}
-use Rattle.reserves.specs.Holding.{askedToken, isToken, said, Numbered}
+use Rattle.reserves.specs.Asked.{askedToken}
+use Rattle.reserves.specs.Holding.{isToken, said, Numbered}
 use Rattle.reserves.proofs.holding.number_for.Statement.{statement}
 use Rattle.reserves.proofs.holding.number_for.Tie as tie
 

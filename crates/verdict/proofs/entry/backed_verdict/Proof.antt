@@ -4,6 +4,7 @@ use borrow.Author.Needs.{needs}
 use Rattle.fields.proofs.Told.{told}
 use Rattle.reserves.proofs.Counting.{candidates-listed}
 use Rattle.verdict.proofs.Placing.{eleventh-place, twelfth-place, debits-standing, backings-tabled, sum-fits, told-past, left-past, told-unpaid, left-unpaid, told-refused, left-refused}
+use Rattle.verdict.proofs.Running.{payouts-room}
 use Rattle.verdict.proofs.entry.backed_verdict.Statement.{statement}
 use Rattle.verdict.proofs.entry.backed_verdict.Tie as tie
 
@@ -35,12 +36,12 @@ backed-verdict-spec =
     ))  -- returns-3
     (λ c. search needs)  -- slice-aggregate-list-parameters
     (λ c κs. debits-standing _ _ _ _ (c .before .before .before .before .before .before .before .before .before .before .before .before .before .before .before .before .pre .0) _ _ (c .before .before .before .before .before .before .before .before .before .before .before .before .before .before .before .before .pre .1 .1 .0) _ _ _ (c .before .before .before .before .before .before .before .before .choose .ensures) _ (c .before .before .before .before .before .before .skip .ensures) _ (c .before .before .before .before .before .count-asset-parameters .ensures) (search (told, needs)))  -- list-parameters-requires
-    (λ c κs. search needs)  -- list-candidates-requires
+    (λ c κs. payouts-room _ _ _ _ (c .before .before .before .before .before .before .before .before .before .before .before .before .before .before .before .before .before .before .before .pre .1 .1 .0))  -- list-candidates-requires
     (λ c κs. (c .before .before .before .before .before .before .before .before .before .before .before .before .before .before .before .before .before .before .before .before .before .before .before .before .pre .0 .small, (c .before .before .before .before .before .before .before .before .before .before .before .before .before .before .before .before .before .before .before .before .before .before .before .before .pre .1 .1 .1)))  -- list-if-asked-requires
     (λ c. search needs)  -- slice-aggregate-match-payouts
     (λ c κs. (
       backings-tabled _ _ _ _ (c .before .before .before .before .before .before .before .before .before .before .before .before .before .before .before .before .before .before .before .before .before .before .before .before .before .before .before .before .before .before .before .pre .0) _ _ (c .before .before .before .before .before .before .before .before .before .before .before .before .before .before .before .before .before .before .before .before .before .before .before .before .before .before .before .before .before .before .before .pre .1 .1 .0) _ _ _ (c .before .before .before .before .before .before .before .before .before .before .before .before .before .before .before .before .before .before .before .before .before .before .before .choose .ensures) _ (c .before .before .before .before .before .before .before .before .before .before .before .before .before .before .before .before .before .before .before .before .before .skip .ensures) _ (c .before .before .before .before .before .before .before .before .before .before .before .before .before .before .before .before .before .before .before .before .count-asset-parameters .ensures) (search (told, needs)) (search needs) (search needs) _ _ (c .before .before .before .before .before .before .before .before .before .before .before .before .before .before .list-parameters .ensures),
-      (c .before .before .before .before .before .before .before .before .before .before .before .before .before .before .before .before .before .before .before .before .before .before .before .before .before .before .before .before .before .before .before .pre .1 .1 .0, (candidates-listed _ _ _ _ _ (c .before .before .before .before .before .before .before .before .before .before .before .list-candidates .ensures) (c .before .before .before .before .before .before .before .before .before .before .before .before .before .before .before .before .before .before .before .before .before .before .before .before .before .before .before .before .before .before .before .pre .1 .0), (search needs, search needs))),
+      (c .before .before .before .before .before .before .before .before .before .before .before .before .before .before .before .before .before .before .before .before .before .before .before .before .before .before .before .before .before .before .before .pre .1 .1 .0, (candidates-listed _ _ _ _ (payouts-room _ _ _ _ (c .before .before .before .before .before .before .before .before .before .before .before .before .before .before .before .before .before .before .before .before .before .before .before .before .before .before .before .before .before .before .before .pre .1 .1 .0)) _ _ _ (c .before .before .before .before .before .before .before .before .before .before .before .list-candidates .ensures) (c .before .before .before .before .before .before .before .before .before .before .before .before .before .before .before .before .before .before .before .before .before .before .before .before .before .before .before .before .before .before .before .pre .1 .0), (search needs, search needs))),
     ))  -- match-payouts-requires
     (λ c. search needs)  -- same-length-4
     (λ c. search needs)  -- same-length-5

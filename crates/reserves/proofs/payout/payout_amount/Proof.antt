@@ -1,8 +1,8 @@
 -- Where the value, peeled, calls a member `split`, the amount is that call's first argument.
 use borrow.Author.Needs.{needs}
-use Rattle.matching.proofs.Reading.{split-amount, whole-amount, split-within, whole-within}
-use Rattle.matching.proofs.backing.payout_amount.Statement.{statement}
-use Rattle.matching.proofs.backing.payout_amount.Tie as tie
+use Rattle.reserves.proofs.Paid.{split-amount, whole-amount, split-within, whole-within}
+use Rattle.reserves.proofs.payout.payout_amount.Statement.{statement}
+use Rattle.reserves.proofs.payout.payout_amount.Tie as tie
 
 pub payout-amount-spec : {M : Type 1} → statement M
 payout-amount-spec =

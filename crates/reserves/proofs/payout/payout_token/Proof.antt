@@ -1,8 +1,8 @@
 -- The readers are the definition's, one inside the other.
 use borrow.Author.Needs.{needs}
-use Rattle.matching.specs.Matching.{payoutToken}
-use Rattle.matching.proofs.backing.payout_token.Statement.{statement}
-use Rattle.matching.proofs.backing.payout_token.Tie as tie
+use Rattle.reserves.specs.Payouts.{payoutToken}
+use Rattle.reserves.proofs.payout.payout_token.Statement.{statement}
+use Rattle.reserves.proofs.payout.payout_token.Tie as tie
 
 pub payout-token-spec : {M : Type 1} → statement M
 unfolding payoutToken

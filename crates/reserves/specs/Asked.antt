@@ -1,0 +1,23 @@
+-- The tokens and the amounts that payouts ask for: those that stand in the file at the first places of a table.
+use Prim.Native.Nat.{ℕ}
+use mathlib.Core.List.{List, map}
+use lib.ListN.{getD, take, drop}
+use Rattle.fields.specs.Field.{Field, front}
+use Rattle.walking.specs.Walking.{peel}
+use Rattle.reserves.specs.Payouts.{payoutToken, payoutAmount}
+
+-- the token of the payout at the k-th place of the table
+unfoldable pub askedToken : (file asked : List ℕ) → ℕ → List ℕ
+askedToken file asked k = payoutToken (front (drop (getD asked k 0) file))
+
+-- the amount, peeled, of the payout at a place of the file
+unfoldable pub paidAt : List ℕ → ℕ → Field
+paidAt file n = peel (payoutAmount (front (drop n file)))
+
+-- at the k-th place of the table
+unfoldable pub askedAmount : (file asked : List ℕ) → ℕ → Field
+askedAmount file asked k = paidAt file (getD asked k 0)
+
+-- all of them
+unfoldable pub askedAmounts : (file asked : List ℕ) → ℕ → List Field
+askedAmounts file asked count = map (paidAt file) (take count asked)
