@@ -32,7 +32,7 @@ pub record Entries (file lent before table u fundings : List ℕ) (count : ℕ) 
   pub lines : Repeating (entryLines (fields file)) before 0 u n m
   pub room : length file ≤ 3 * length lent
   pub same-table : length table ≡ length lent
-  pub wide : length fundings ≡ 1900
+  pub wide : length fundings ≡ 1930
   pub funded : Fundings file fundings count
 
 module _ (file : List ℕ) (a : Answer) (e : asked a ≡ askFile file) where
@@ -48,7 +48,7 @@ module _ (file : List ℕ) (a : Answer) (e : asked a ≡ askFile file) where
   table-enough f = omega (arith, short-file file (asked-all f))
 
 module _ (file lent before : List ℕ) where
-  pub entries-none : askFile file ≡ passes → length file ≤ 3 * length lent → (fundings : List ℕ) (count : ℕ) → length fundings ≡ 1900 → Fundings file fundings count →
+  pub entries-none : askFile file ≡ passes → length file ≤ 3 * length lent → (fundings : List ℕ) (count : ℕ) → length fundings ≡ 1930 → Fundings file fundings count →
       (t : List ℕ) → t ≡ from Entry Entry file → Entries file lent before lent before fundings count t 0 0
   unfolding fromNth
   entries-none p r fundings count w f t e =

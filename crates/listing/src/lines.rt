@@ -115,7 +115,7 @@ fn all_lines(file: &[u8], table: &mut [u16], buffer: &mut [u8]) -> usize
     requires table { ⌜ length (now file) ≤ 3 * length (now table) ⌝ }
     ensures { λ r. ⌜ Written (rules.listing (now (file .entry))) (now (buffer .entry)) 0 (now (buffer .exit)) r ⌝ }
 {
-    let mut fundings = [0u16; 1900];
+    let mut fundings = [0u16; 1930];
     let mut fundings_count = NOT_LISTED;
     let mut t = first_from(file, ENTRY, ENTRY);
     let mut n = 0;

@@ -339,7 +339,7 @@ fn verdict_at(file: &[u8], place: usize, covers: &mut [u8]) -> Verdict
     ensures answer { λ r. ⌜ r ≡ coded (spare (entryOf (now (file .entry)) place)) (placedVerdict (fields (now (file .entry))) (placedAt (now (file .entry)) place) (length (now (covers .entry)))) ⌝ }
     ensures covers { λ r. ⌜ now (covers .exit) ≡ written (placedVerdict (fields (now (file .entry))) (placedAt (now (file .entry)) place) (length (now (covers .entry)))) (now (covers .entry)) ⌝ }
 {
-    let mut fundings = [0u16; 1900];
+    let mut fundings = [0u16; 1930];
     let mut fundings_count = NOT_LISTED;
     if file.len() <= 6144 {
         let mut table = [0u16; 2048];

@@ -51,8 +51,7 @@ fn largest(make: impl Fn(usize) -> Vec<Field>) -> Vec<Field> {
     make(1 + (32_768 - size(1)) / step)
 }
 
-/// The worst that were found for the proved verdict itself. Here no guard's
-/// amount is that of a lowering, so each is compared with all.
+/// Guards that no payout asks for, and lowerings by other amounts.
 fn guards_and_lowerings(count: usize) -> Vec<Field> {
     let amount = |kind: &str, i: usize| identifier(&format!("{kind}{i:04}"));
     let mut parts = vec![asset("a")];
@@ -62,8 +61,7 @@ fn guards_and_lowerings(count: usize) -> Vec<Field> {
     vec![state("r", None), entry("f", parts)]
 }
 
-/// Each guard bounds by what is lowered but is no state field, so it is looked
-/// for among all of them.
+/// Guards of what is lowered but is no state field, and many of these.
 fn states_and_guards(count: usize) -> Vec<Field> {
     let mut fields: Vec<Field> = (0..count).map(|i| state(&format!("{i:04}"), None)).collect();
     let mut parts = vec![asset("a")];
@@ -74,7 +72,8 @@ fn states_and_guards(count: usize) -> Vec<Field> {
     fields
 }
 
-/// Each payout asks for the token that all conditions name.
+/// Each payout asks for the token that all conditions name: of the files here
+/// the one that takes the proved verdict longest.
 fn conditions_and_parameters(count: usize) -> Vec<Field> {
     let name = |i: usize| format!("a{i:02}");
     let mut parts: Vec<Field> = (0..64).map(|i| asset(&name(i))).collect();
