@@ -23,7 +23,11 @@ pub fn samples() -> Vec<Sample> {
         sample("large wallet", noted(wallet(16), 9)),
         sample("large exchange", noted(exchange(12), 12)),
         sample("64 payouts of 64 debits", payouts(64, 0)),
-        sample("long amounts", payouts(32, 25)),
+        sample("32 payouts of 32 longer debits", payouts(32, 25)),
+        sample("64 payouts of 64 long debits", payouts(64, 17)),
+        sample("64 payouts of one long amount", equal_payouts(64, 17)),
+        sample("wide", wide()),
+        sample("many maps", many_maps(31)),
         sample("debits and crediting entries", debits_and_credits()),
         sample("deep nesting", deep_nesting()),
         sample("guards and raises", guards_and_raises(1, 100, 100)),
@@ -35,12 +39,19 @@ pub fn samples() -> Vec<Sample> {
             "more payouts, guards and raises",
             guards_and_raises(40, 300, 400),
         ),
+        sample("entries, raises and debits", largest(entries_and_raises)),
+        sample("reserves", largest(reserves)),
         sample("guards and lowerings", largest(guards_and_lowerings)),
+        sample(
+            "guards of an amount and lowerings",
+            largest(asked_guards_and_lowerings),
+        ),
         sample("state fields and guards", largest(states_and_guards)),
         sample(
             "conditions and parameters",
             largest(conditions_and_parameters),
         ),
+        sample("names of one number", names_of_one_number()),
     ]
 }
 
@@ -59,6 +70,90 @@ fn guards_and_lowerings(count: usize) -> Vec<Field> {
     parts.extend((0..count).map(|i| assign(tag::SUBTRACT, identifier("r"), amount("l", i))));
     parts.push(pays("T", amount_of("a")));
     vec![state("r", None), entry("f", parts)]
+}
+
+/// Guards of one amount, which a payout asks for, and lowerings by others.
+fn asked_guards_and_lowerings(count: usize) -> Vec<Field> {
+    let held = guard(binary(AT_LEAST, identifier("r"), identifier("n")));
+    let mut parts = vec![held; count];
+    parts.extend(vec![
+        assign(tag::SUBTRACT, identifier("r"), identifier("m"));
+        count
+    ]);
+    parts.push(pays("T", identifier("n")));
+    vec![state("r", None), entry("f", parts)]
+}
+
+/// Entries that each pay out of a reserve, whose raises are by a debit behind
+/// many others.
+fn entries_and_raises(count: usize) -> Vec<Field> {
+    let amount = || binary(TIMES, amount_of("a"), integer("2"));
+    let mut raising = vec![statement(debit("m", identifier("k"))); count];
+    raising.push(statement(debit("m", identifier("n"))));
+    raising.extend(vec![
+        assign(tag::ADD, identifier("r"), identifier("n"));
+        2 * count
+    ]);
+    let crediting = vec![
+        asset("a"),
+        limits(binary(EQUAL, in_asset(), identifier("T"))),
+        statement(member_call("m", "credit", vec![caller(), amount_of("a")])),
+    ];
+    let paying = vec![
+        asset("a"),
+        guard(binary(AT_LEAST, identifier("r"), amount())),
+        assign(tag::SUBTRACT, identifier("r"), amount()),
+        pays("T", amount()),
+    ];
+    let mut fields = vec![
+        state("r", None),
+        entry("c", crediting),
+        entry("g", raising),
+    ];
+    fields.extend(vec![entry("f", paying); 62]);
+    fields
+}
+
+/// State fields that are all guarded and lowered by a payout's amount, the one
+/// that holds its token the last.
+fn reserves(count: usize) -> Vec<Field> {
+    let name = |i: usize| format!("{i:03}");
+    let amount = || amount_of("a");
+    let doubled = || binary(TIMES, amount(), integer("2"));
+    let mut fields: Vec<Field> = (0..count).map(|i| state(&name(i), None)).collect();
+    let last = assign(tag::ADD, identifier(&name(count - 1)), amount());
+    fields.push(entry("g", vec![asset("a"), admits("T"), last]));
+    let mut paying = vec![asset("a")];
+    for i in 0..count {
+        paying.push(guard(binary(AT_LEAST, identifier(&name(i)), doubled())));
+        paying.push(assign(tag::SUBTRACT, identifier(&name(i)), doubled()));
+    }
+    paying.push(pays("T", doubled()));
+    fields.push(entry("f", paying));
+    fields
+}
+
+/// State fields whose names have one number in the table of question 7, so that
+/// each is compared with all before it.
+fn names_of_one_number() -> Vec<Field> {
+    let number = |name: &[u8]| {
+        name.iter()
+            .fold(0usize, |n, byte| (n * 137 + usize::from(*byte)) % 2_097_152)
+    };
+    let mut names = Vec::new();
+    for front in 0..95usize.pow(3) {
+        let digit = |power| b' ' + (front / 95usize.pow(power) % 95) as u8;
+        let start = [digit(2), digit(1), digit(0), b' ', b' '];
+        let missing = (2_097_152 + 1_000_000 - number(&start)) % 2_097_152;
+        if missing / 137 < 95 && missing % 137 < 95 {
+            let behind = [b' ' + (missing / 137) as u8, b' ' + (missing % 137) as u8];
+            names.push([start[0], start[1], start[2], behind[0], behind[1]]);
+        }
+    }
+    let of_text = |name: &[u8; 5]| String::from_utf8(name.to_vec()).expect("the bytes are text");
+    let fields: Vec<Field> = names.iter().map(|n| state(&of_text(n), None)).collect();
+    let size = bytes(&fields[..1]).len();
+    fields[..32_768 / size].to_vec()
 }
 
 /// Guards of what is lowered but is no state field, and many of these.
@@ -238,6 +333,43 @@ fn payouts(count: usize, terms: usize) -> Vec<Field> {
     let debits = (0..count).map(|i| statement(debit("m", long_amount(terms, i))));
     let payouts = (0..count).rev().map(|i| pays("T", long_amount(terms, i)));
     vec![entry("f", debits.chain(payouts).collect())]
+}
+
+/// So many payouts of as many debits, all of one amount.
+fn equal_payouts(count: usize, terms: usize) -> Vec<Field> {
+    let debits = vec![statement(debit("m", long_amount(terms, 0))); count];
+    let payouts = vec![pays("T", long_amount(terms, 0)); count];
+    vec![entry("f", [debits, payouts].concat())]
+}
+
+/// A call with as many arguments as there is room for, and statements around a
+/// payout.
+fn wide() -> Vec<Field> {
+    let many = emit("Many", vec![identifier("n"); 2_000]);
+    let mut body = vec![many, statement(debit("m", identifier("n")))];
+    body.extend(vec![local("x", identifier("n")); 1_800]);
+    body.push(pays("T", identifier("n")));
+    vec![entry("f", body)]
+}
+
+/// Maps, each with an entry that credits it and one that debits it.
+fn many_maps(count: usize) -> Vec<Field> {
+    let map = |i: usize| format!("balances{i:02}");
+    let crediting = |i: usize| {
+        let credit = member_call(&map(i), "credit", vec![caller(), amount_of("a")]);
+        vec![asset("a"), admits(&token(i)), statement(credit)]
+    };
+    let paying = |i: usize| {
+        let amount = || identifier("amount");
+        vec![
+            plain("amount"),
+            statement(debit(&map(i), amount())),
+            pays(&token(i), amount()),
+        ]
+    };
+    (0..count)
+        .flat_map(|i| [entry("deposit", crediting(i)), entry("withdraw", paying(i))])
+        .collect()
 }
 
 /// Entries with 64 debits each, and entries that credit the map.
