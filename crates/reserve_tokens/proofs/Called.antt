@@ -1,7 +1,7 @@
 -- The calls of an entry's body are all in the table, and a test that only a call passes needs no others.
 use Prim.Native.Nat.{ℕ, _+_, _*_, _≤_, _<_}
-use mathlib.Core.Path.{_≡_, refl, ap, _∙_}
-use mathlib.Core.Bool.{Bool, true, false, cond, not}
+use mathlib.Core.Path.{_≡_, refl, sym, ap, _∙_}
+use mathlib.Core.Bool.{Bool, true, false, cond, not, and-true, and-false}
 use mathlib.Core.List.{List, [], _∷_, map}
 use native.Mathlib.Omega.{arith}
 use borrow.Author.Tests.{not-true, not-false, leb-true}
@@ -65,15 +65,15 @@ pub amount-call : (kind : Field → Bool) → ((f : Field) → kind f ≡ true �
 unfolding withAmount
 amount-call kind implies v f h = implies f (and-left (kind f) (exprEq (peel (part 2 f)) v) h)
 
--- what the code tests: another call fails, and of one of the kind the amount decides
-module _ (kind : Field → Bool) (v f : Field) (a : Bool) (e : a ≡ kind f) where
-  pub other-call : not a ≡ true → false ≡ withAmount kind v f
+-- what the code tests: a call of another amount fails, and of one with the amount its kind decides
+module _ (kind : Field → Bool) (v f : Field) (p x : List ℕ) (g : front p ≡ part 2 f) (i : front x ≡ peel (front p)) (b : Bool) (k : b ≡ exprEq (front x) v) where
+  pub other-amount : not b ≡ true → false ≡ withAmount kind v f
   unfolding withAmount
-  other-call h = rw (← e, not-true a h)
+  other-amount h = sym (rw (← g, ← i, ← k, not-true b h) (and-false (kind f)))
 
-  pub by-amount : not a ≡ false → (p x : List ℕ) → front p ≡ part 2 f → front x ≡ peel (front p) → (b : Bool) → b ≡ exprEq (front x) v → b ≡ withAmount kind v f
+  pub by-kind : not b ≡ false → (a : Bool) → a ≡ kind f → a ≡ withAmount kind v f
   unfolding withAmount
-  by-amount h p x g i b k = k ∙ rw (← e, not-false a h, i, g)
+  by-kind h a e = e ∙ sym (rw (← g, ← i, ← k, not-false b h) (and-true (kind f)))
 
 -- Whether some call passes
 

@@ -14,24 +14,25 @@ ghost use Rattle.tokens.specs.Tokens.{isCredit};
 ghost use Rattle.reserve_tokens.specs.ReserveTokens.{credited};
 ghost use Rattle.reserve_tokens.specs.Raising.{CallsOf, withAmount, debitOf};
 
-// Whether the call at the front of s is a credit, set or insert whose second argument, peeled, is the amount.
+// Whether the call at the front of s is a credit, set or insert whose second argument, peeled, is the amount. The amount is
+// compared first: that takes less time than to read the shape of a call, and few calls have it.
 fn is_crediting(amount: &[u8], s: &[u8]) -> bool
     ensures { λ r. ⌜ r ≡ withAmount isCredit (front (now (amount .entry))) (front (now (s .entry))) ⌝ }
 {
-    if !is_credit(s) {
+    if !expr_eq(peel(part_of(s, 2)), amount) {
         return false;
     }
-    expr_eq(peel(part_of(s, 2)), amount)
+    is_credit(s)
 }
 
 // Whether it is a caller debit of the amount.
 fn is_debiting(amount: &[u8], s: &[u8]) -> bool
     ensures { λ r. ⌜ r ≡ withAmount isDebit (front (now (amount .entry))) (front (now (s .entry))) ⌝ }
 {
-    if !is_debit(s) {
+    if !expr_eq(peel(part_of(s, 2)), amount) {
         return false;
     }
-    expr_eq(peel(part_of(s, 2)), amount)
+    is_debit(s)
 }
 
 // Whether a call of the entry credits, sets or inserts the amount.
