@@ -1,17 +1,15 @@
 -- The entries of a file, one after the other: whoever lists the calls of those that are left has listed all. There are few of
 -- them, since each call takes three bytes at least.
-use Prim.Native.Nat.{ℕ, _+_, _-_, _*_, _≤_, _<_}
-use mathlib.Core.Path.{_≡_, refl, sym, ap, _∙_}
+use Prim.Native.Nat.{ℕ, _+_, _-_, _*_, _≤_}
+use mathlib.Core.Path.{_≡_, refl, _∙_}
 use mathlib.Core.Bool.{Bool, true, false, cond}
 use mathlib.Core.List.{List, [], _∷_, _++_, flatMap}
 use native.Mathlib.Omega.{arith}
-use borrow.Author.Tests.{leb-true, leb-false}
-use lib.Dec.{leb}
-use lib.ListN.{length, drop, length-drop, drop-of-length-le}
-use lib.Seq.{length-sets, drop-drop, drop-length}
+use lib.ListN.{length, drop}
+use lib.Seq.{length-sets}
 use Rattle.tags.specs.Tag.{Entry}
 use Rattle.fields.specs.Table.{Listed}
-use Rattle.fields.specs.Field.{Field, Placed, fields, lengthOf, whole, after, front, size, placeFrom, from}
+use Rattle.fields.specs.Field.{Field, Placed, lengthOf, whole, after, front, size, from}
 use Rattle.fields.proofs.Places.{front-size}
 use Rattle.fields.proofs.Rows.{after-size, restOf, from-shorter, from-placed, rest-next}
 use Rattle.fields.proofs.Tables.{listed-none, listed-then, listed-front}
@@ -20,6 +18,7 @@ use Rattle.walking.specs.Walking.{bodyExprs}
 use Rattle.walking.specs.Table.{placedAt}
 use Rattle.walking.proofs.Within.{within-length, body-within}
 use Rattle.tokens.specs.Fundings.{tokensNumber, isFundingCall, numbersOf, fundingsOf, fundings, Fundings, Standing}
+use Rattle.tokens.proofs.Tails.{tail-first, tail-next}
 
 -- How many there are
 
@@ -49,22 +48,6 @@ fundings-fit file zeros table count l m =
     record { room = λ n. m; listed = λ n. listed-front (fundings file) zeros table count l (omega (arith, m, w)) }
 
 -- One entry after the other
-
-tail-of : (file t : List ℕ) (j : ℕ) → t ≡ drop j file → t ≡ drop (length file - length t) file
-tail-of file t j e = go (leb j (length file)) refl
-  where
-    go : (k : Bool) → leb j (length file) ≡ k → t ≡ drop (length file - length t) file
-    go true h =
-        let l : length t ≡ length file - j = rw (e, length-drop j file) in
-        let z : length file - length t ≡ j = omega (arith, leb-true j (length file) h) in
-        e ∙ rw z
-    go false h =
-        let b : length file < j = leb-false j (length file) h in
-        let n : t ≡ [] = e ∙ drop-of-length-le file {i = j} (omega arith) in
-        let l : length t ≡ 0 = rw n in
-        let z : length file - length t ≡ length file = omega arith in
-        n ∙ sym (ap (λ k. drop k file) z ∙ drop-length file)
-
 -- t starts with an entry of the file, or has no whole field
 pub record Entering (file table last t : List ℕ) (m : ℕ) : Type 0 where
   pub tail : t ≡ drop (length file - length t) file
@@ -78,7 +61,7 @@ unfolding fundings entries
 entering-first file table t e =
     let l : length t ≤ length file = rw e (from-shorter Entry Entry file) in
     record {
-      tail = tail-of file t (placeFrom Entry Entry (fields file)) e;
+      tail = tail-first Entry Entry file t e;
       within = l;
       few = omega arith;
       wide = refl;
@@ -108,17 +91,12 @@ module _ (file table last t : List ℕ) (m : ℕ) (i : Entering file table last 
         let z : 0 + (length file - length t) ≡ length file - length t = omega arith in
         rw (w, z, rest-next Entry Entry 0 file t (i .within), ← a, ← b) (listed-then _ _ last u v m k r listed-here q)
 
-    next-tail : j ≡ drop (length file - length j) file
-    next-tail =
-        tail-of file j (length file - length t + (3 + lengthOf t) + placeFrom Entry Entry (fields y))
-        (b ∙ rw (← drop-drop (placeFrom Entry Entry (fields y)) (length file - length t + (3 + lengthOf t)) file, ← drop-drop (3 + lengthOf t) (length file - length t) file, ← i .tail, a))
-
     pub entering-on : Entering file table u j k
     entering-on =
         let l : length j ≤ length y = rw b (from-shorter Entry Entry y) in
         let d : length t ≡ 3 + lengthOf t + length y = rw a (after-size t w) in
         record {
-          tail = next-tail;
+          tail = tail-next Entry Entry file t y j (i .tail) a b;
           within = omega (arith, i .within);
           few = omega (arith, i .few, listed-here .count, entry-few file here, front-size t w);
           wide = rw (p .kept) (length-sets last m (fundingsOf file (placedAt file (length file - length t)))) ∙ i .wide;

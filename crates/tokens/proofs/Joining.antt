@@ -1,16 +1,19 @@
 -- A number stands for a list of tokens: two such lists together have the number of the two joined.
-use Prim.Native.Nat.{ℕ, _-_, _≤_, _<_}
+use Prim.Native.Nat.{ℕ, _+_, _-_, _≤_, _<_}
 use mathlib.Core.Path.{_≡_, refl, sym, ap, _∙_}
 use mathlib.Core.Bool.{Bool, true, false, cond, _&&_}
 use mathlib.Core.List.{List, [], _∷_, _++_, map, flatMap, append-nil, append-assoc}
 use native.Mathlib.Omega.{arith}
-use borrow.Author.Tests.{eqb-true, eqb-false, eq-eqb, ne-eqb, lt-leb, le-leb}
-use lib.Dec.{eqb}
-use lib.ListN.{drop}
+use borrow.Author.Tests.{eqb-true, eqb-false, eq-eqb, ne-eqb, lt-leb, le-leb, leb-true, leb-false}
+use lib.Dec.{eqb, leb}
+use lib.ListN.{length, drop, drop-of-length-le}
 use Rattle.fields.specs.Lists.{all, known, sameBytes}
-use Rattle.fields.specs.Field.{front}
+use Rattle.tags.specs.Tag.{isWrapper}
+use Rattle.fields.specs.Field.{front, nth}
 use Rattle.fields.proofs.Lists.{Every}
+use Rattle.fields.proofs.Reading.{front-none}
 use Rattle.fields.proofs.Texts.{bytes-equal, bytes-same}
+use Rattle.walking.specs.Walking.{peel}
 use Rattle.tokens.specs.Tokens.{single, besideInAsset}
 use Rattle.tokens.specs.Fundings.{tokenOf, joined, joinedAll}
 
@@ -48,22 +51,6 @@ module _ (file : List ℕ) (a b : ℕ) where
         unfolding joined
         joined-differ h = rw (ne-eqb b 0 n, ne-eqb a 0 m, ← g, h)
 
--- one of three
-joined-one : (P : ℕ → Type 0) (file : List ℕ) (a b : ℕ) → P a → P b → P 1 → P (joined file a b)
-unfolding joined
-joined-one P file a b p q r = go (eqb b 0) (eqb a 0) (sameBytes (tokenOf file a) (tokenOf file b))
-  where
-    go : (i j k : Bool) → P (cond i a (cond j b (cond k a 1)))
-    go true j k = p
-    go false true k = q
-    go false false true = p
-    go false false false = r
-
-pub joined-small : (file : List ℕ) (n a : ℕ) (bs : List ℕ) → 1 ≤ n → a ≤ n → Every (λ b. b ≤ n) bs → joinedAll file a bs ≤ n
-unfolding joinedAll
-joined-small file n a [] o h e = h
-joined-small file n a (b ∷ bs) o h e = joined-small file n (joined file a b) bs o (joined-one (λ k. k ≤ n) file a b h (e .0) o) (e .1)
-
 -- where two differ, no other changes that
 pub joined-several : (file : List ℕ) (b : ℕ) → joined file 1 b ≡ 1
 unfolding joined
@@ -73,6 +60,11 @@ joined-several file b = go (eqb b 0) (sameBytes (tokenOf file 1) (tokenOf file b
     go true k = refl
     go false true = refl
     go false false = refl
+
+pub all-several : (file : List ℕ) (bs : List ℕ) → joinedAll file 1 bs ≡ 1
+unfolding joinedAll
+all-several file [] = refl
+all-several file (b ∷ bs) = ap (λ k. joinedAll file k bs) (joined-several file b) ∙ all-several file bs
 
 -- with the same once more nothing changes
 pub joined-again : (file : List ℕ) (a b : ℕ) → joined file (joined file a b) b ≡ joined file a b
@@ -121,6 +113,33 @@ means-token file k (x ∷ xs) e = go (all (sameBytes x) xs) e
     go : (b : Bool) → Stating file k x b → tokenOf file k ≡ cond b x []
     go true f = f .0
     go false f = rw f (several-none file)
+
+-- a number with a token is that of a place in the file
+nothing-beside : besideInAsset (front []) ≡ []
+unfolding besideInAsset peel nth isWrapper
+nothing-beside = rw (front-none [] refl)
+
+pub token-inside : (file : List ℕ) (k : ℕ) → known (tokenOf file k) ≡ true → k ≤ length file + 2
+unfolding tokenOf known
+token-inside file k h = go (leb k (length file + 2)) refl
+  where
+    go : (b : Bool) → leb k (length file + 2) ≡ b → k ≤ length file + 2
+    go true e = leb-true k (length file + 2) e
+    go false e =
+        let l : length file + 2 < k = leb-false k (length file + 2) e in
+        let d : drop (k - 2) file ≡ [] = drop-of-length-le file {i = k - 2} (omega arith) in
+        let z : false ≡ true = rw (le-leb 2 k (omega arith), d, nothing-beside) at h in
+        let y : _≡_ {A = ℕ} 0 1 = cc in
+        absurd (omega arith)
+
+-- so two bytes hold it
+pub means-small : (file : List ℕ) → length file ≤ 32768 → (k : ℕ) (ts : List (List ℕ)) → Means file k ts → k < 65536
+means-small file h k [] e = omega arith
+means-small file h k (x ∷ xs) e = go (all (sameBytes x) xs) e
+  where
+    go : (b : Bool) → Stating file k x b → k < 65536
+    go true f = omega (arith, token-inside file k (rw (f .0) (f .1)))
+    go false f = omega arith
 
 unlike-none : (x : List ℕ) → known x ≡ true → sameBytes x [] ≡ false
 unfolding known sameBytes
@@ -180,6 +199,19 @@ means-joined file a b (x ∷ xs) [] e f = rw (← joined-empty file a b f, appen
 means-joined file a b (x ∷ xs) (y ∷ ys) e f =
     rw (all-append (sameBytes x) xs (y ∷ ys), same-rest file a b x y ys)
     (two file a b x y (all (sameBytes x) xs) (all (sameBytes y) ys) (sameBytes x y) e f refl)
+
+-- two tokens that differ stay so with others
+pub means-several : (file : List ℕ) (ts us : List (List ℕ)) → Means file 1 ts → Means file 1 (ts ++ us)
+unfolding known all
+means-several file [] us e = absurd (omega (arith, e))
+means-several file (x ∷ xs) us e = rw (all-append (sameBytes x) xs us) (go (all (sameBytes x) xs) e)
+  where
+    unlike : known x ≡ true → [] ≡ x → _≡_ {A = ℕ} 1 0
+    unlike k f = cc
+
+    go : (b : Bool) → Stating file 1 x b → Stating file 1 x (b && all (sameBytes x) us)
+    go true f = absurd (omega (arith, unlike (f .1) (sym (several-none file) ∙ f .0)))
+    go false f = refl
 
 -- of many lists
 module _ {A : Type 0} (file : List ℕ) (g : A → ℕ) (h : A → List (List ℕ)) where

@@ -1,7 +1,6 @@
 pub mod Agreeing
 pub mod Funded
-pub mod Gathering
-pub mod Admitted
+pub mod Tails
 pub mod Funders
 pub mod Examples
 pub mod Shown

@@ -14,17 +14,16 @@ use Rattle.fields.specs.Table.{Listed}
 use Rattle.fields.specs.Field.{Placed, front}
 use Rattle.fields.proofs.Lists.{Every}
 use Rattle.fields.proofs.Inside.{Stands}
-use Rattle.fields.proofs.Places.{parts-inside}
 use Rattle.fields.proofs.Slices.{drop-step}
 use Rattle.walking.specs.Table.{placedAt}
 use Rattle.conditions.specs.Conditions.{Condition, requiredConditions, operator}
 use Rattle.conditions.specs.Table.{marks, conditionAt}
-use Rattle.conditions.proofs.Callers.{Holds, Ends, conditions-stand, conditions-end, table-wide, table-read}
+use Rattle.conditions.proofs.Callers.{Holds, conditions-stand, table-wide, table-read}
 use Rattle.tokens.specs.Tokens.{besideInAsset, tokenNamed, tokensNamed, admittedInflowToken}
 use Rattle.tokens.specs.Agreed.{tokenAt}
 use Rattle.tokens.specs.Fundings.{tokenOf, joined, joinedAll, conditionNumber, tokensNumber, ConditionsOf, Standing}
 use Rattle.tokens.proofs.Agreeing.{unknown, is-known}
-use Rattle.tokens.proofs.Joining.{Means, means-token, means-all, joined-small}
+use Rattle.tokens.proofs.Joining.{Means, means-token, means-all, means-small, all-several}
 
 -- What the code tests
 
@@ -79,12 +78,18 @@ named-each (c ∷ cs) = go (known (tokenNamed c)) (named-each cs)
     go true e = rw e
     go false e = e
 
-pub entry-means : (file : List ℕ) (p : Placed) → Stands file p → Means file (tokensNumber file p) (tokensNamed (p .this))
-unfolding tokensNumber tokensNamed
-entry-means file p s =
+-- a set with that of the entry
+pub entry-joined : (file : List ℕ) (p : Placed) → Stands file p → (a : ℕ) (ts : List (List ℕ)) → Means file a ts →
+    Means file (joinedAll file a (map (conditionNumber (p .place)) (requiredConditions (p .this)))) (ts ++ tokensNamed (p .this))
+unfolding tokensNamed
+entry-joined file p s a ts e =
     rw (← named-each (requiredConditions (p .this)))
-    (means-all file (conditionNumber (p .place)) namedBy 0 [] (requiredConditions (p .this)) refl
+    (means-all file (conditionNumber (p .place)) namedBy a ts (requiredConditions (p .this)) e
     (conditions-mean file (p .place) (requiredConditions (p .this)) (rw s at (conditions-stand (drop (p .place) file)))))
+
+pub entry-means : (file : List ℕ) (p : Placed) → Stands file p → Means file (tokensNumber file p) (tokensNamed (p .this))
+unfolding tokensNumber
+entry-means file p s = entry-joined file p s 0 [] refl
 
 -- so the token that it stands for is the one that the entry admits
 pub number-token : (s : List ℕ) (k : ℕ) → k ≡ tokensNumber s (placedAt s 0) → (r : List ℕ) → r ≡ tokenOf s k → r ≡ admittedInflowToken (front s)
@@ -92,23 +97,9 @@ unfolding admittedInflowToken
 number-token s k e r f =
     f ∙ rw e (means-token s (tokensNumber s (placedAt s 0)) (tokensNamed (front s)) (entry-means s (placedAt s 0) refl))
 
--- Two bytes hold it
-
-conditions-small : (n b : ℕ) (cs : List Condition) → n + b ≤ 32768 → Every (Holds (Ends b)) cs → Every (λ k. k ≤ 32768) (map (conditionNumber n) cs)
-unfolding conditionNumber
-conditions-small n b [] h e = tt
-conditions-small n b (c ∷ cs) h e = (go (known (tokenNamed c)), conditions-small n b cs h (e .1))
-  where
-    go : (k : Bool) → cond k (n + c .place + 2) 0 ≤ 32768
-    go true = omega (arith, e .0, parts-inside (c .this))
-    go false = omega arith
-
 pub number-small : (file : List ℕ) (n j : ℕ) → Standing file n j → (r : ℕ) → r ≡ tokensNumber file (placedAt file n) → r < 65536
-unfolding tokensNumber
 number-small file n j h r e =
-    let l : r ≤ 32768 = rw e (joined-small file 32768 0 (map (conditionNumber n) (requiredConditions (front (drop n file)))) (omega arith) (omega arith)
-    (conditions-small n (length (drop n file)) (requiredConditions (front (drop n file))) (omega (arith, h .short, h .within, length-drop n file)) (conditions-end (drop n file)))) in
-    omega arith
+    means-small file (h .short) r (tokensNamed (front (drop n file))) (rw e (entry-means file (placedAt file n) refl))
 
 -- The conditions of a table, one after the other
 
@@ -127,16 +118,16 @@ module _ (g : ℕ → ℕ) (file l : List ℕ) (n r i found : ℕ) (v : Joining 
   joining-done h =
       rw (drop-of-length-le (take n l) {i = i} (omega (arith, length-take-le n l (v .room)))) at (v .left)
 
-  joining-step : i < n → (b : ℕ) → b ≡ g (getD l i 0) → (u : ℕ) → u ≡ joined file found b → Joining g file l n r (i + 1) u
-  unfolding joinedAll
-  joining-step h b f u q =
-      let j : i < length (take n l) = omega (arith, length-take-le n l (v .room)) in
-      let s : drop i (take n l) ≡ getD l i 0 ∷ drop (i + 1) (take n l) = drop-step (take n l) i j ∙ rw (getD-take n l i 0 h) in
-      record {
-        within = omega arith;
-        room = v .room;
-        left = rw (q, f) (rw s at (v .left));
-      }
+  module _ (h : i < n) (b : ℕ) (f : b ≡ g (getD l i 0)) (u : ℕ) (q : u ≡ joined file found b) where
+    joining-here : joinedAll file u (map g (drop (i + 1) (take n l))) ≡ r
+    unfolding joinedAll
+    joining-here =
+        let j : i < length (take n l) = omega (arith, length-take-le n l (v .room)) in
+        let s : drop i (take n l) ≡ getD l i 0 ∷ drop (i + 1) (take n l) = drop-step (take n l) i j ∙ rw (getD-take n l i 0 h) in
+        rw (q, f) (rw s at (v .left))
+
+    joining-step : Joining g file l n r (i + 1) u
+    joining-step = record { within = omega arith; room = v .room; left = joining-here }
 
 mapped-marks : (entry : List ℕ) (n : ℕ) (ks : List ℕ) → map (markNumber entry n) ks ≡ map (conditionNumber n) (map (conditionAt entry) ks)
 unfolding markNumber
@@ -159,16 +150,30 @@ module _ (file : List ℕ) (n : ℕ) (s : List ℕ) (e : s ≡ drop n file) wher
     conditions-all k = conditions-fit (table-wide s zeros table count l (omega (arith, short)))
 
   module _ (l : List ℕ) (count : ℕ) where
-    pub joining-all : ConditionsOf (drop n file) l count → Joining (markNumber s n) file l count (tokensNumber file (placedAt file n)) 0 0
-    unfolding tokensNumber
-    joining-all c = record {
+    -- from a set on
+    pub joining-from : ConditionsOf (drop n file) l count → (a : ℕ) →
+        Joining (markNumber s n) file l count (joinedAll file a (map (conditionNumber n) (requiredConditions (front (drop n file))))) 0 a
+    joining-from c a = record {
       within = omega arith;
       room = c .room;
       left = rw (e, mapped-marks (drop n file) n (take count l), c .read);
     }
 
+    pub joining-all : ConditionsOf (drop n file) l count → Joining (markNumber s n) file l count (tokensNumber file (placedAt file n)) 0 0
+    unfolding tokensNumber
+    joining-all c = joining-from c 0
+
     module _ (r i found : ℕ) (v : Joining (markNumber s n) file l count r i found) (o : i < count) (k : ℕ) (f : k ≡ getD l i 0)
         (b : ℕ) (g : b ≡ conditionNumber n (conditionAt s k)) (u : ℕ) (q : u ≡ joined file found b) where
-      pub joining-on : Joining (markNumber s n) file l count r (i + 1) u
+      named-here : b ≡ markNumber s n (getD l i 0)
       unfolding markNumber
-      joining-on = joining-step (markNumber s n) file l count r i found v o b (rw (← f) g) u q
+      named-here = rw (← f) g
+
+      pub joining-on : Joining (markNumber s n) file l count r (i + 1) u
+      joining-on = joining-step (markNumber s n) file l count r i found v o b named-here u q
+
+      -- two that differ stay so
+      pub joining-several : u ≡ 1 → r ≡ 1
+      joining-several d =
+          sym (joining-here (markNumber s n) file l count r i found v o b named-here u q)
+          ∙ rw d (all-several file (map (markNumber s n) (drop (i + 1) (take count l))))

@@ -1,12 +1,11 @@
 -- A token that is found is the text of an identifier that stands in the file, so it shows the bytes behind that one's head.
-use Prim.Native.Nat.{ℕ, zero, suc, _+_, _≤_}
+use Prim.Native.Nat.{ℕ, zero, suc, _+_}
 use mathlib.Core.Path.{_≡_, refl, sym, ap, _∙_}
 use mathlib.Core.Bool.{Bool, true, false, cond}
-use mathlib.Core.List.{List, [], _∷_, _++_, map, flatMap}
+use mathlib.Core.List.{List, [], _∷_, map, flatMap}
 use native.Mathlib.Omega.{arith}
 use native.Mathlib.Nat.{add-zero, add-assoc}
-use borrow.Author.Tests.{eqb-true}
-use lib.Dec.{eqb, leb}
+use lib.Dec.{eqb}
 use lib.ListN.{length, take, drop}
 use lib.Seq.{take-length, drop-drop, drop-length}
 use Rattle.fields.specs.Lists.{all, filter, known, sameBytes}
@@ -23,6 +22,7 @@ use Rattle.walking.specs.Walking.{withoutPlaces, peel, peelFirst, peelPlace, pe
 use Rattle.conditions.specs.Conditions.{Condition, requiredConditions, operator}
 use Rattle.conditions.proofs.Callers.{Holds, conditions-stand}
 use Rattle.tokens.specs.Tokens.{single, besideInAsset, tokenNamed, tokensNamed, admittedInflowToken, funds, ledgerFundingTokens, fundingToken}
+use Rattle.tokens.specs.Fundings.{tokenOf}
 use Rattle.tokens.specs.Place.{besidePlace, Found, foundIn, foundOf, firstPlace, admittedPlace, fundingPlace}
 
 -- a peeled field stands at its place, down to where a wrapper holds none
@@ -200,5 +200,6 @@ funding-shown file m =
 pub admitted-there : (s r : List ℕ) → r ≡ admittedInflowToken (front s) → Shows s (admittedPlace (length s) (front s)) r
 admitted-there s r e = rw e (admitted-shown s)
 
-pub funding-there : (file m r : List ℕ) → r ≡ fundingToken (fields file) m → Shows file (fundingPlace (length file) (fields file) m) r
-funding-there file m r e = rw e (funding-shown file m)
+pub funding-there : (file m : List ℕ) (k : ℕ) → tokenOf file k ≡ fundingToken (fields file) m → (r : List ℕ) → r ≡ tokenOf file k →
+    Shows file (fundingPlace (length file) (fields file) m) r
+funding-there file m k e r f = rw (f, e) (funding-shown file m)

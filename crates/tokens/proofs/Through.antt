@@ -17,7 +17,7 @@ use Rattle.walking.specs.Walking.{withoutPlaces, bodyExprs, peel, receiver}
 use Rattle.walking.proofs.Callers.{body-stands, body-anywhere}
 use Rattle.tokens.specs.Tokens.{tokensNamed, isCredit, isInflow, isFunding, funds, ledgerFundingTokens, fundingToken}
 use Rattle.tokens.specs.Fundings.{tokenOf, joined, joinedAll, tokensNumber, isFundingCall, numbersOf, fundingsOf, fundings, Fundings, foundWith, foundThrough}
-use Rattle.tokens.proofs.Joining.{Means, means-all, means-token, joined-again, joined-several}
+use Rattle.tokens.proofs.Joining.{Means, means-all, means-token, means-small, joined-again, joined-several}
 use Rattle.tokens.proofs.Numbers.{entry-means}
 use Rattle.tokens.proofs.Shown.{entries-stand, filter-places}
 
@@ -122,22 +122,28 @@ each-without g [] = refl
 each-without g (p ∷ ps) = rw (each-without g ps)
 
 -- so the set that is found is that of the map's tokens
-pub through-token : (file m : List ℕ) → tokenOf file (foundThrough file m 0 (fundings file)) ≡ fundingToken (fields file) m
-unfolding fundings fundingToken ledgerFundingTokens
-through-token file m =
+through-means : (file m : List ℕ) → Means file (foundThrough file m 0 (fundings file)) (ledgerFundingTokens (fields file) m)
+unfolding fundings ledgerFundingTokens
+through-means file m =
     let es : List Placed = filter (λ p. funds m (p .this)) (entries (fields file)) in
     rw (
       through-all file m (entries (fields file)) 0 (entries-stand file),
       ← filter-places (funds m) (entries (fields file)),
       ← each-without tokensNamed es,
     )
-    (means-token file (joinedAll file 0 (map (tokensNumber file) es)) (flatMap (λ p. tokensNamed (p .this)) es)
     (means-all file (tokensNumber file) (λ p. tokensNamed (p .this)) 0 [] es refl
-    (entries-mean file es (every-filter (Stands file) (λ p. funds m (p .this)) (entries (fields file)) (entries-stand file)))))
+    (entries-mean file es (every-filter (Stands file) (λ p. funds m (p .this)) (entries (fields file)) (entries-stand file))))
 
-pub through-listed : (file m table : List ℕ) (count : ℕ) → Fundings file table count → (count ≡ 65535 → ⊥) → (k : ℕ) → k ≡ foundThrough file m 0 (take count table) →
-    (r : List ℕ) → r ≡ tokenOf file k → r ≡ fundingToken (fields file) m
-through-listed file m table count f n k e r g = g ∙ rw (e, f .listed n) (through-token file m)
+module _ (file m table : List ℕ) (count : ℕ) (f : Fundings file table count) (n : count ≡ 65535 → ⊥) (k : ℕ) (e : k ≡ foundThrough file m 0 (take count table)) where
+  listed-means : Means file k (ledgerFundingTokens (fields file) m)
+  listed-means = rw (e, f .listed n) (through-means file m)
+
+  pub through-listed : tokenOf file k ≡ fundingToken (fields file) m
+  unfolding fundingToken
+  through-listed = means-token file k (ledgerFundingTokens (fields file) m) listed-means
+
+  pub through-small : length file ≤ 32768 → k < 65536
+  through-small h = means-small file h k (ledgerFundingTokens (fields file) m) listed-means
 
 pub through-room : (file table : List ℕ) (count : ℕ) → Fundings file table count → (count ≡ 65535 → ⊥) → count ≤ length table
 through-room file table count f n = f .room n

@@ -5,16 +5,12 @@ use mathlib.Core.List.{List, [], _∷_}
 use Rattle.fields.specs.Lists.{filter, known}
 use Rattle.tags.specs.Tag.{Entry}
 use Rattle.fields.specs.Field.{Field, fields, whole, after, front, fieldsFrom}
-use Rattle.tokens.specs.Tokens.{single, tokenNamed, funds}
+use Rattle.tokens.specs.Tokens.{tokenNamed, funds}
 use Rattle.conditions.specs.Table.{conditionAt}
 
 -- the second token if it is known, else the first
 unfoldable pub knownOf : List ℕ → List ℕ → List ℕ
 knownOf a b = cond (known b) b a
-
--- the one token among the one found so far and those that are left; an unknown one counts for nothing
-unfoldable pub agreed : List ℕ → List (List ℕ) → List ℕ
-agreed a ts = single (filter known (a ∷ ts))
 
 -- the token that a number of the table of an entry's conditions stands for
 unfoldable pub tokenAt : List ℕ → ℕ → List ℕ

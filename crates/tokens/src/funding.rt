@@ -10,8 +10,8 @@ use tags::CALL;
 use tags::ENTRY;
 use walking::walk::list_body;
 ghost use mathlib.Core.Path.{_≡_};
-ghost use Prim.Native.Nat.{_≤_};
-ghost use lib.ListN.{length};
+ghost use Prim.Native.Nat.{_-_, _≤_};
+ghost use lib.ListN.{length, drop};
 ghost use Rattle.fields.specs.Lists.{filter};
 ghost use Rattle.tags.specs.Tag.{Entry};
 ghost use Rattle.fields.specs.Field.{fields, fieldsFrom, front};
@@ -40,6 +40,7 @@ pub fn first_funding<'a>(s: &'a [u8], map: &[u8]) -> &'a [u8]
     requires { ⌜ length (now s) ≤ 32768 ⌝ }
     ensures found { λ r. ⌜ filter (funds (now (map .entry))) (fieldsFrom Entry Entry (fields (now (s .entry)))) ≡ fundingFrom (now (map .entry)) (now r) ⌝ }
     ensures within { λ r. ⌜ length (now r) ≤ length (now (s .entry)) ⌝ }
+    ensures tail { λ r. ⌜ now r ≡ drop (length (now (s .entry)) - length (now r)) (now (s .entry)) ⌝ }
 {
     let mut t = first_from(s, ENTRY, ENTRY);
     while is_whole(t) {

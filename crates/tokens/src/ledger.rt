@@ -6,7 +6,7 @@ use super::inflow::is_inflow;
 use super::number::join;
 use super::number::token_of;
 use super::number::tokens_number;
-use super::token::ledger_funding_token;
+use super::token::ledger_funding_number;
 use fields::bytes::same_bytes;
 use fields::bytes::skip;
 use fields::front::after_front;
@@ -30,7 +30,7 @@ ghost use Rattle.fields.specs.Field.{fields, front};
 ghost use Rattle.fields.specs.Table.{Listed};
 ghost use Rattle.walking.specs.Table.{placedAt};
 ghost use Rattle.tokens.specs.Tokens.{fundingToken};
-ghost use Rattle.tokens.specs.Fundings.{isFundingCall, fundingsOf, fundings, Fundings, foundWith, foundThrough, fundingCallAt, numbersAt, Calls, CallsOf, Standing};
+ghost use Rattle.tokens.specs.Fundings.{tokenOf, isFundingCall, fundingsOf, fundings, Fundings, foundWith, foundThrough, fundingCallAt, numbersAt, Calls, CallsOf, Standing};
 
 // What a caller says that listed nothing.
 pub const NOT_LISTED: usize = 65535;
@@ -185,15 +185,25 @@ fn found_through(file: &[u8], map: &[u8], fundings: &[u16], count: usize) -> usi
     found
 }
 
-// The one token that funds the map; none where no entry that funds it names one, or two differ. It is read from what
-// list_fundings wrote, and where nothing was listed, from the whole file.
+// The set of the tokens that fund the map. It is read from what list_fundings wrote, and where nothing was listed, from the
+// whole file.
+pub fn funding_number(file: &[u8], map: &[u8], fundings: &[u16], count: usize) -> usize
+    requires short { ⌜ length (now file) ≤ 32768 ⌝ }
+    requires known { ⌜ Fundings (now file) (now fundings) count ⌝ }
+    ensures reads { λ r. ⌜ tokenOf (now (file .entry)) r ≡ fundingToken (fields (now (file .entry))) (now (map .entry)) ⌝ }
+    ensures small { λ r. ⌜ r < 65536 ⌝ }
+{
+    if count == NOT_LISTED {
+        return ledger_funding_number(file, map);
+    }
+    found_through(file, map, fundings, count)
+}
+
+// The one token that funds the map; none where no entry that funds it names one, or two differ.
 pub fn funding_token<'a>(file: &'a [u8], map: &[u8], fundings: &[u16], count: usize) -> &'a [u8]
     requires short { ⌜ length (now file) ≤ 32768 ⌝ }
     requires known { ⌜ Fundings (now file) (now fundings) count ⌝ }
     ensures { λ r. ⌜ now r ≡ fundingToken (fields (now (file .entry))) (now (map .entry)) ⌝ }
 {
-    if count == NOT_LISTED {
-        return ledger_funding_token(file, map);
-    }
-    token_of(file, found_through(file, map, fundings, count))
+    token_of(file, funding_number(file, map, fundings, count))
 }

@@ -51,7 +51,7 @@ pub fn join(file: &[u8], a: usize, b: usize) -> usize
 }
 
 // The set that a condition names, whose mark in the table of conditions is given, of the entry that stands at a place.
-fn condition_number(entry: &[u8], place: usize, mark: usize) -> usize
+pub fn condition_number(entry: &[u8], place: usize, mark: usize) -> usize
     requires { ⌜ place ≤ 32768 ⌝ }
     ensures { λ r. ⌜ r ≡ conditionNumber place (conditionAt (now (entry .entry)) mark) ⌝ }
 {

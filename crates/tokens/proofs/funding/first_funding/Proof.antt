@@ -1,16 +1,14 @@
 -- An entry that does not fund the map is passed over, and the first that does is still ahead.
-use Prim.Native.Nat.{ℕ}
-use mathlib.Core.Path.{_≡_, sym, _∙_}
-use mathlib.Core.Bool.{Bool, true, false}
-use mathlib.Core.List.{List}
-use native.Mathlib.Omega.{arith}
+use Prim.Native.Nat.{_-_}
+use mathlib.Core.Path.{_≡_}
 use borrow.Author.Needs.{needs}
-use lib.ListN.{length}
+use lib.ListN.{length, drop}
 use Rattle.tags.specs.Tag.{Entry}
-use Rattle.fields.proofs.Told.{told, told-is}
+use Rattle.fields.proofs.Told.{told}
 use Rattle.fields.proofs.Rows.{from-less}
 use Rattle.fields.proofs.Choosing.{Choosing, choosing-first, choosing-none, choosing-here, choosing-on}
 use Rattle.tokens.specs.Tokens.{funds}
+use Rattle.tokens.proofs.Tails.{tail-first, tail-next}
 use Rattle.tokens.proofs.funding.first_funding.Statement.{statement}
 use Rattle.tokens.proofs.funding.first_funding.Tie as tie
 
@@ -18,15 +16,15 @@ pub first-funding-spec : {M : Type 1} → statement M
 first-funding-spec =
     tie.close
     (tie.spec
-    (λ s map t₀ t. Choosing Entry Entry (funds map) s t)  -- Inv-loop
+    (λ s map t₀ t. Choosing Entry Entry (funds map) s t × (t ≡ drop (length s - length t) s))  -- Inv-loop
     (λ s map t₀ t. length t)  -- μ-loop
     (λ c κs. search needs)  -- first-from-requires
-    (λ c. search choosing-first)  -- loop-holds
+    (λ c. (search choosing-first, search tail-first))  -- loop-holds
     (λ c κs. search needs)  -- is-whole-requires
     (λ c κs. search needs)  -- entry-funds-requires
-    (λ c. (search (choosing-here, told), search needs))  -- returns
+    (λ c. (search (choosing-here, told), (search needs, search needs)))  -- returns
     (λ c κs. search needs)  -- after-front-requires
     (λ c κs. search needs)  -- first-from-requires-2
     (λ c. search (from-less, told))  -- loop-less
-    (λ c. search (choosing-on, told))  -- loop-again
-    (λ c. (search (choosing-none, told), search needs)))  -- returns-2
+    (λ c. (search (choosing-on, told), search tail-next))  -- loop-again
+    (λ c. (search (choosing-none, told), (search needs, search needs))))  -- returns-2
