@@ -1,15 +1,20 @@
 -- The token of each raise and the one found so far: an unknown one leaves none, one that differs neither, and one that is the
 -- same changes nothing.
-use Prim.Native.Nat.{ℕ}
-use mathlib.Core.Path.{_≡_, refl, _∙_}
-use mathlib.Core.Bool.{Bool, true, false, cond}
+use Prim.Native.Nat.{ℕ, _≤_}
+use mathlib.Core.Path.{_≡_, refl, sym, _∙_}
+use mathlib.Core.Bool.{Bool, true, false, cond, not}
 use mathlib.Core.List.{List, [], _∷_}
+use native.Mathlib.Omega.{arith}
+use borrow.Author.Tests.{ltb-true, ltb-false}
+use lib.Dec.{ltb}
 use lib.ListN.{length}
 use Rattle.fields.specs.Lists.{all, known, sameBytes}
-use Rattle.fields.proofs.Texts.{bytes-equal}
+use Rattle.fields.proofs.Texts.{bytes-equal, bytes-same}
 use Rattle.tokens.specs.Tokens.{single, differ}
+use Rattle.tokens.specs.Fundings.{tokenOf}
 use Rattle.tokens.proofs.Agreeing.{unknown, is-known}
-use Rattle.reserve_tokens.specs.Raising.{bars}
+use Rattle.tokens.proofs.Joining.{token-none, token-inside}
+use Rattle.reserve_tokens.specs.Raising.{Found, bars}
 
 -- the one token among the one found so far, where there is one, and those that are left: here an unknown one counts
 unfoldable pub held : List ℕ → List (List ℕ) → List ℕ
@@ -65,12 +70,59 @@ module _ (a t : List ℕ) (ts : List (List ℕ)) where
       go true true false p q r = cc
       go true false k p q r = rw (p, q)
 
--- what the code tests
-module _ (a t : List ℕ) where
-  pub unknown-bars : length t ≡ 0 → true ≡ bars a t
-  unfolding bars
-  unknown-bars e = rw (unknown t e)
+-- a known token bars the field where it differs
+known-bars : (a t : List ℕ) → (length t ≡ 0 → ⊥) → (b : Bool) → b ≡ differ a t → b ≡ bars a t
+unfolding bars
+known-bars a t n b e = e ∙ rw (is-known t n)
 
-  pub known-bars : (length t ≡ 0 → ⊥) → (b : Bool) → b ≡ differ a t → b ≡ bars a t
+pub not-barred : (a t : List ℕ) → bars a t ≡ false → known t ≡ true
+unfolding bars
+not-barred a t e = go (known t) refl
+  where
+    go : (k : Bool) → known t ≡ k → known t ≡ true
+    go true p = p
+    go false p = cc
+
+bars-itself : (t : List ℕ) → not (known t) ≡ bars t t
+unfolding bars differ
+bars-itself t = go (known t) refl
+  where
+    go : (k : Bool) → known t ≡ k → not (known t) ≡ bars t t
+    go true p = rw (p, bytes-same t)
+    go false p = rw p
+
+-- The numbers of tokens
+
+pub token-none-of : (file : List ℕ) → tokenOf file 1 ≡ []
+token-none-of file = sym (token-none file 1 (omega arith))
+
+pub found-none : (file : List ℕ) → Found file 1
+unfolding known
+found-none file = record { some = omega arith; small = omega arith; unnamed = rw (token-none-of file) }
+
+-- one with a known token
+pub found-known : (file : List ℕ) → length file ≤ 32768 → (k : ℕ) → known (tokenOf file k) ≡ true → Found file k
+unfolding known
+found-known file h k e = go (ltb k 2) refl
+  where
+    go : (b : Bool) → ltb k 2 ≡ b → Found file k
+    go true f =
+        let z : false ≡ true = rw (← token-none file k (ltb-true k 2 f)) at e in
+        let y : _≡_ {A = ℕ} 0 1 = cc in
+        absurd (omega arith)
+    go false f =
+        let l : 2 ≤ k = ltb-false k 2 f in
+        record { some = omega arith; small = omega (arith, token-inside file k e); unnamed = rw (e, f) }
+
+-- what the code tests
+module _ (file : List ℕ) (found k : ℕ) where
+  pub unknown-bars : (t : List ℕ) → t ≡ tokenOf file k → length t ≡ 0 → true ≡ bars (tokenOf file found) (tokenOf file k)
   unfolding bars
-  known-bars n b e = e ∙ rw (is-known t n)
+  unknown-bars t e h = rw (← e, unknown t h)
+
+  pub same-number : Found file found → k ≡ found → ltb k 2 ≡ bars (tokenOf file found) (tokenOf file k)
+  same-number i e = rw e (sym (i .unnamed) ∙ bars-itself (tokenOf file found))
+
+  pub number-bars : (t : List ℕ) → t ≡ tokenOf file k → (length t ≡ 0 → ⊥) → (x : List ℕ) → x ≡ tokenOf file found → (b : Bool) → b ≡ differ x t →
+      b ≡ bars (tokenOf file found) (tokenOf file k)
+  number-bars t e h x f b d = rw (← e, ← f) (known-bars x t h b d)

@@ -1,9 +1,10 @@
 -- The raises of an entry are the statements that raise the field, and the token of each is that of a debit's map or of a guard.
 use Prim.Native.Nat.{ℕ}
-use mathlib.Core.Path.{_≡_, refl, ap}
+use mathlib.Core.Path.{_≡_, refl, sym, ap}
 use mathlib.Core.Bool.{Bool, true, false, cond, not, _&&_, _||_}
 use mathlib.Core.List.{List, [], _∷_, _++_, map, flatMap}
 use mathlib.Core.Option.{none, some}
+use native.Mathlib.Omega.{arith}
 use borrow.Author.Tests.{eqb-true}
 use lib.Dec.{eqb}
 use Rattle.fields.specs.Lists.{any, filter, find}
@@ -15,8 +16,10 @@ use Rattle.walking.specs.Walking.{peel, present, receiver, ident, isDebit, debi
 use Rattle.walking.proofs.Calls.{debit-call}
 use Rattle.equality.specs.Equality.{exprEq}
 use Rattle.tokens.specs.Tokens.{isInflow, fundingToken}
+use Rattle.tokens.specs.Fundings.{tokenOf}
+use Rattle.tokens.proofs.Joining.{token-none}
 use Rattle.reserve_tokens.specs.ReserveTokens.{assigns, value, setsFrom, raise, raises, credited, guardTokens, only, debitToken, raiseToken, raiseTokens}
-use Rattle.reserve_tokens.specs.Raising.{isRaise, raisedBy, raising, withAmount, firstOf, debitOf, raiseDebit, inflowToken, tokenOr}
+use Rattle.reserve_tokens.specs.Raising.{isRaise, raisedBy, raising, withAmount, firstOf, debitOf, raiseDebit, inflowNumber, tokenOr}
 use Rattle.reserve_tokens.proofs.Called.{amount-call}
 
 -- Raises
@@ -72,15 +75,20 @@ module _ (model : Fields) (v : Field) where
       go true false a b e h = rw b e
       go false k a b e h = e
 
-  module _ (entry : Field) (inflow : Bool) (i : inflow ≡ isInflow entry v) where
-    pub raise-token-is : raiseToken model entry v ≡ tokenOr model (raiseDebit inflow entry v) (inflowToken inflow (only (guardTokens entry)) entry v)
-    unfolding raiseToken tokenOr raiseDebit inflowToken debitToken debits debitOf
+  -- by the number of the guard's token
+  module _ (entry : Field) (inflow : Bool) (i : inflow ≡ isInflow entry v) (file : List ℕ) (guarded : ℕ) (g : tokenOf file guarded ≡ only (guardTokens entry)) where
+    guard-credited : (k : Bool) → cond k [] (only (guardTokens entry)) ≡ tokenOf file (cond k 0 guarded)
+    guard-credited true = token-none file 0 (omega arith)
+    guard-credited false = sym g
+
+    pub raise-token-is : raiseToken model entry v ≡ tokenOr model (raiseDebit inflow entry v) (tokenOf file (inflowNumber inflow guarded entry v))
+    unfolding raiseToken tokenOr raiseDebit inflowNumber debitToken debits debitOf
     raise-token-is = rw (← i) (go inflow)
       where
         go : (k : Bool) → cond k (cond (credited entry v) [] (only (guardTokens entry))) (debitToken model entry v)
-            ≡ tokenOr model (cond k nothing (debitOf entry v)) (cond k (cond (credited entry v) [] (only (guardTokens entry))) [])
-        go true = refl
-        go false = debit-each (exprs entry)
+            ≡ tokenOr model (cond k nothing (debitOf entry v)) (tokenOf file (cond k (cond (credited entry v) 0 guarded) 0))
+        go true = guard-credited (credited entry v)
+        go false = rw (← token-none file 0 (omega arith)) (debit-each (exprs entry))
 
 -- no debit has no map
 no-receiver : receiver nothing ≡ []

@@ -1,10 +1,10 @@
 -- What the code asks on its way to a state field's token: of one statement, of one entry with a table of its calls, and of the
 -- token that was found so far.
-use Prim.Native.Nat.{ℕ, _≤_}
+use Prim.Native.Nat.{ℕ, _≤_, _<_}
 use mathlib.Core.Path.{_≡_}
 use mathlib.Core.Bool.{Bool, true, cond, _&&_, _||_, not}
 use mathlib.Core.List.{List, [], _∷_, map}
-use lib.Dec.{eqb}
+use lib.Dec.{eqb, ltb}
 use lib.ListN.{length, take, drop}
 use Rattle.fields.specs.Lists.{any, all, filter, sameBytes, known}
 use Rattle.tags.specs.Tag.{Entry, Guard, SubtractFrom, ExpressionStatement, Call, Add, Sub}
@@ -13,6 +13,7 @@ use Rattle.questions.specs.Model.{nameOf, body}
 use Rattle.walking.specs.Walking.{peel, present, receiver, isDebit, assetParams, exprs}
 use Rattle.equality.specs.Equality.{exprEq}
 use Rattle.tokens.specs.Tokens.{differ, fundingToken}
+use Rattle.tokens.specs.Fundings.{tokenOf}
 use Rattle.reserve_tokens.specs.ReserveTokens.{assigns, value, setsFrom, isZero, credited}
 
 -- Zero
@@ -78,9 +79,9 @@ debitOf entry v = firstOf (withAmount isDebit v) (exprs entry)
 unfoldable pub raiseDebit : (inflow : Bool) → Field → Field → Field
 raiseDebit inflow entry v = cond inflow nothing (debitOf entry v)
 
--- the token of a raise by v where v is `p.amount` and its guard has that token; none for any other
-unfoldable pub inflowToken : (inflow : Bool) → List ℕ → Field → Field → List ℕ
-inflowToken inflow guarded entry v = cond inflow (cond (credited entry v) [] guarded) []
+-- the number of the token of a raise by v where v is `p.amount` and its guard has that number; 0 for any other
+unfoldable pub inflowNumber : (inflow : Bool) → (guarded : ℕ) → Field → Field → ℕ
+inflowNumber inflow guarded entry v = cond inflow (cond (credited entry v) 0 guarded) 0
 
 -- an asset parameter of the entry has no name: then an amount that is not `p.amount` passes for it
 unfoldable pub nameless : Field → Bool
@@ -90,11 +91,17 @@ nameless entry = any (sameBytes []) (assetParams entry)
 unfoldable pub tokenOr : Fields → Field → List ℕ → List ℕ
 tokenOr model d other = cond (present d) (fundingToken model (receiver d)) other
 
--- Tokens
+-- Tokens and their numbers
 
--- both tokens are known
-unfoldable pub bothKnown : List ℕ → List ℕ → Bool
-bothKnown a b = known a && known b
+-- the number of a known token, or 0
+pub record Named (file : List ℕ) (k : ℕ) : Type 0 where
+  pub named : known (tokenOf file k) ≡ not (eqb k 0)
+
+-- the number of the token found so far: that of a known token, or 1 where there is none
+pub record Found (file : List ℕ) (k : ℕ) : Type 0 where
+  pub some : 0 < k
+  pub small : k < 65536
+  pub unnamed : not (known (tokenOf file k)) ≡ ltb k 2
 
 -- the token of a raise bars the field: it is unknown, or differs from the one found so far
 unfoldable pub bars : List ℕ → List ℕ → Bool

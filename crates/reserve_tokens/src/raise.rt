@@ -17,8 +17,8 @@ use tags::SUB;
 use tags::SUBTRACT_FROM;
 use walking::peel::peel;
 ghost use mathlib.Core.Path.{_≡_};
-ghost use Prim.Native.Nat.{_≤_};
-ghost use lib.ListN.{length};
+ghost use Prim.Native.Nat.{_-_, _≤_};
+ghost use lib.ListN.{length, drop};
 ghost use Rattle.fields.specs.Lists.{filter};
 ghost use Rattle.tags.specs.Tag.{Entry, Guard, ExpressionStatement};
 ghost use Rattle.fields.specs.Field.{fields, fieldsFrom, front, after};
@@ -83,6 +83,7 @@ fn has_raise(s: &[u8], name: &[u8]) -> bool
 pub fn first_raising<'a>(s: &'a [u8], name: &[u8]) -> &'a [u8]
     ensures found { λ r. ⌜ filter (raising (now (name .entry))) (fieldsFrom Entry Entry (fields (now (s .entry)))) ≡ raisingFrom (now (name .entry)) (now r) ⌝ }
     ensures within { λ r. ⌜ length (now r) ≤ length (now (s .entry)) ⌝ }
+    ensures tail { λ r. ⌜ now r ≡ drop (length (now (s .entry)) - length (now r)) (now (s .entry)) ⌝ }
 {
     let mut t = first_from(s, ENTRY, ENTRY);
     while is_whole(t) {

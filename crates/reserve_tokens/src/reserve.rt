@@ -1,9 +1,9 @@
 // SPDX-License-Identifier: Apache-2.0 OR MIT
-// The token that a state field holds: all raises of it, in all entries, have one token. A token is a part of the file, and no
-// token is the empty part.
+// The token that a state field holds: all raises of it, in all entries, have one token. It is known by its number, which is the
+// place of a comparison that names it, so that it can be remembered for the whole file.
 use super::calls::first_debit;
 use super::calls::is_credited;
-use super::guard::only_guard_token;
+use super::guard::only_guard_number;
 use super::raise::first_raise;
 use super::raise::first_raising;
 use super::raise::next_raise;
@@ -14,7 +14,8 @@ use fields::front::after_front;
 use fields::front::is_whole;
 use fields::front::parts_of;
 use tags::CALL;
-use tokens::ledger::funding_token;
+use tokens::ledger::funding_number;
+use tokens::number::token_of;
 use tokens::set::tokens_differ;
 use walking::backer::asset_amount_backer;
 use walking::parameters::has_asset_parameter;
@@ -22,13 +23,13 @@ use walking::shape::is_present;
 use walking::shape::receiver;
 use walking::walk::list_body;
 ghost use mathlib.Core.Path.{_≡_};
-ghost use Prim.Native.Nat.{_*_, _≤_};
+ghost use Prim.Native.Nat.{_*_, _≤_, _<_};
 ghost use lib.ListN.{length};
 ghost use Rattle.fields.specs.Field.{fields, front};
 ghost use Rattle.tokens.specs.Tokens.{single, isInflow, fundingToken};
-ghost use Rattle.tokens.specs.Fundings.{Fundings};
+ghost use Rattle.tokens.specs.Fundings.{Fundings, tokenOf};
 ghost use Rattle.reserve_tokens.specs.ReserveTokens.{raiseTokens, reserveToken};
-ghost use Rattle.reserve_tokens.specs.Raising.{CallsOf, nameless, raiseDebit, inflowToken, tokenOr, bars, remembered};
+ghost use Rattle.reserve_tokens.specs.Raising.{CallsOf, Found, nameless, raiseDebit, inflowNumber, tokenOr, bars, remembered};
 
 // Whether an asset parameter of the entry has no name.
 fn has_unnamed(entry: &[u8]) -> bool
@@ -50,24 +51,24 @@ fn comes_in(entry: &[u8], amount: &[u8], unnamed: bool) -> bool
     has_asset_parameter(entry, backer)
 }
 
-// The token of a raise by `p.amount`: that of the entry's only such guard, and no call may credit the amount too. None for any
-// other raise.
-fn inflow_token<'a>(
+// The number of the token of a raise by `p.amount`: that of the entry's only such guard, and no call may credit the amount too.
+// 0 for any other raise.
+fn inflow_number(
     entry: &[u8],
     amount: &[u8],
     inflow: bool,
-    guarded: &'a [u8],
+    guarded: usize,
     calls: &[u16],
     count: usize,
-) -> &'a [u8]
+) -> usize
     requires { ⌜ CallsOf (now entry) (now calls) count ⌝ }
-    ensures { λ r. ⌜ now r ≡ inflowToken inflow (now (guarded .entry)) (front (now (entry .entry))) (front (now (amount .entry))) ⌝ }
+    ensures { λ r. ⌜ r ≡ inflowNumber inflow guarded (front (now (entry .entry))) (front (now (amount .entry))) ⌝ }
 {
     if !inflow {
-        return &guarded[..0];
+        return 0;
     }
     if is_credited(entry, amount, calls, count) {
-        return &guarded[..0];
+        return 0;
     }
     guarded
 }
@@ -89,73 +90,80 @@ fn raise_debit<'a>(
     first_debit(entry, amount, calls, count)
 }
 
-// The funding token of a map, looked up among the calls that fund one. For the map that was looked up last it is the token
-// found so far.
-fn map_token<'a>(
-    file: &'a [u8],
+// The number of the funding token of a map, looked up among the calls that fund one. For the map that was looked up last it is
+// the one found so far.
+fn map_number(
+    file: &[u8],
     map: &[u8],
     last: &[u8],
-    found: &'a [u8],
+    found: usize,
     fundings: &[u16],
     fundings_count: usize,
-) -> &'a [u8]
+) -> usize
     requires small { ⌜ length (now file) ≤ 32768 ⌝ }
     requires fundings { ⌜ Fundings (now file) (now fundings) «fundings_count» ⌝ }
-    requires kept { ⌜ remembered (fields (now file)) (now last) (now found) ≡ now found ⌝ }
-    ensures { λ r. ⌜ now r ≡ fundingToken (fields (now (file .entry))) (now (map .entry)) ⌝ }
+    requires kept { ⌜ remembered (fields (now file)) (now last) (tokenOf (now file) found) ≡ tokenOf (now file) found ⌝ }
+    ensures { λ r. ⌜ tokenOf (now (file .entry)) r ≡ fundingToken (fields (now (file .entry))) (now (map .entry)) ⌝ }
 {
     if (0 < last.len()) & same_bytes(last, map) {
         return found;
     }
-    funding_token(file, map, fundings, fundings_count)
+    funding_number(file, map, fundings, fundings_count)
 }
 
-// The token of a raise: that of the debit's map, or where there is no debit the one that was admitted.
-fn raise_token<'a>(
-    file: &'a [u8],
+// The number of the token of a raise: that of the debit's map, or where there is no debit the one that was admitted.
+fn raise_number(
+    file: &[u8],
     debit: &[u8],
-    admitted: &'a [u8],
+    admitted: usize,
     last: &[u8],
-    found: &'a [u8],
+    found: usize,
     fundings: &[u16],
     fundings_count: usize,
-) -> &'a [u8]
+) -> usize
     requires small { ⌜ length (now file) ≤ 32768 ⌝ }
     requires fundings { ⌜ Fundings (now file) (now fundings) «fundings_count» ⌝ }
-    requires kept { ⌜ remembered (fields (now file)) (now last) (now found) ≡ now found ⌝ }
-    ensures { λ r. ⌜ now r ≡ tokenOr (fields (now (file .entry))) (front (now (debit .entry))) (now (admitted .entry)) ⌝ }
+    requires kept { ⌜ remembered (fields (now file)) (now last) (tokenOf (now file) found) ≡ tokenOf (now file) found ⌝ }
+    ensures { λ r. ⌜ tokenOf (now (file .entry)) r ≡ tokenOr (fields (now (file .entry))) (front (now (debit .entry))) (tokenOf (now (file .entry)) admitted) ⌝ }
 {
     if !is_present(debit) {
         return admitted;
     }
-    map_token(file, receiver(debit), last, found, fundings, fundings_count)
+    map_number(file, receiver(debit), last, found, fundings, fundings_count)
 }
 
-// Whether the token of a raise bars the field: it is unknown, or another than the one found so far.
-fn is_barred(found: &[u8], token: &[u8]) -> bool
-    ensures { λ r. ⌜ r ≡ bars (now (found .entry)) (now (token .entry)) ⌝ }
+// Whether the token of a raise bars the field: it is unknown, or another than the one found so far. Most raises have the
+// number that was found, and then no token is read.
+fn is_barred(file: &[u8], found: usize, number: usize) -> bool
+    requires { ⌜ Found (now file) found ⌝ }
+    ensures { λ r. ⌜ r ≡ bars (tokenOf (now (file .entry)) found) (tokenOf (now (file .entry)) number) ⌝ }
 {
+    if number == found {
+        return number < 2;
+    }
+    let token = token_of(file, number);
     if token.len() == 0 {
         return true;
     }
-    tokens_differ(found, token)
+    tokens_differ(token_of(file, found), token)
 }
 
-// The one token of all raises; none where there is no raise or one bars the field. The calls of each entry are listed into the
-// lent table: a call takes three bytes of the file at least.
-fn raises_token<'a>(
-    file: &'a [u8],
+// The number of the one token of all raises; 1 where there is no raise or one bars the field. The calls of each entry are
+// listed into the lent table: a call takes three bytes of the file at least.
+fn raises_number(
+    file: &[u8],
     name: &[u8],
     fundings: &[u16],
     fundings_count: usize,
     calls: &mut [u16],
-) -> &'a [u8]
+) -> usize
     requires small { ⌜ length (now file) ≤ 32768 ⌝ }
     requires fundings { ⌜ Fundings (now file) (now fundings) «fundings_count» ⌝ }
     requires room { ⌜ length (now file) ≤ 3 * length (now calls) ⌝ }
-    ensures { λ r. ⌜ now r ≡ single (raiseTokens (fields (now (file .entry))) (now (name .entry))) ⌝ }
+    ensures reads { λ r. ⌜ tokenOf (now (file .entry)) r ≡ single (raiseTokens (fields (now (file .entry))) (now (name .entry))) ⌝ }
+    ensures found { λ r. ⌜ Found (now (file .entry)) r ⌝ }
 {
-    let mut found = &file[..0];
+    let mut found = 1;
     let mut last = &file[..0];
     let mut entry = first_raising(file, name);
     'search: loop {
@@ -163,19 +171,19 @@ fn raises_token<'a>(
             break found;
         }
         let count = list_body(entry, 0, CALL, calls);
-        let guarded = only_guard_token(entry);
+        let guarded = only_guard_number(file, file.len() - entry.len());
         let unnamed = has_unnamed(entry);
         let mut t = first_raise(parts_of(entry), name);
         while is_whole(t) {
             let amount = raised_by(name, t);
             let inflow = comes_in(entry, amount, unnamed);
             let debit = raise_debit(entry, amount, inflow, calls, count);
-            let admitted = inflow_token(entry, amount, inflow, guarded, calls, count);
-            let token = raise_token(file, debit, admitted, last, found, fundings, fundings_count);
-            if is_barred(found, token) {
-                break 'search &file[..0];
+            let admitted = inflow_number(entry, amount, inflow, guarded, calls, count);
+            let number = raise_number(file, debit, admitted, last, found, fundings, fundings_count);
+            if is_barred(file, found, number) {
+                break 'search 1;
             }
-            found = token;
+            found = number;
             let map = receiver(debit);
             last = map;
             let u = next_raise(t, name);
@@ -187,36 +195,46 @@ fn raises_token<'a>(
 }
 
 // The same with a table for a short file, which takes less time to clear.
-fn short_file_token<'a>(
-    file: &'a [u8],
-    name: &[u8],
-    fundings: &[u16],
-    fundings_count: usize,
-) -> &'a [u8]
+fn short_file_number(file: &[u8], name: &[u8], fundings: &[u16], fundings_count: usize) -> usize
     requires short { ⌜ length (now file) ≤ 6144 ⌝ }
     requires fundings { ⌜ Fundings (now file) (now fundings) «fundings_count» ⌝ }
-    ensures { λ r. ⌜ now r ≡ single (raiseTokens (fields (now (file .entry))) (now (name .entry))) ⌝ }
+    ensures reads { λ r. ⌜ tokenOf (now (file .entry)) r ≡ single (raiseTokens (fields (now (file .entry))) (now (name .entry))) ⌝ }
+    ensures found { λ r. ⌜ Found (now (file .entry)) r ⌝ }
 {
     let mut calls = [0u16; 2048];
-    raises_token(file, name, fundings, fundings_count, &mut calls)
+    raises_number(file, name, fundings, fundings_count, &mut calls)
 }
 
 // The same with a table for every file that passes question 1.
-fn long_file_token<'a>(
-    file: &'a [u8],
-    name: &[u8],
-    fundings: &[u16],
-    fundings_count: usize,
-) -> &'a [u8]
+fn long_file_number(file: &[u8], name: &[u8], fundings: &[u16], fundings_count: usize) -> usize
     requires small { ⌜ length (now file) ≤ 32768 ⌝ }
     requires fundings { ⌜ Fundings (now file) (now fundings) «fundings_count» ⌝ }
-    ensures { λ r. ⌜ now r ≡ single (raiseTokens (fields (now (file .entry))) (now (name .entry))) ⌝ }
+    ensures reads { λ r. ⌜ tokenOf (now (file .entry)) r ≡ single (raiseTokens (fields (now (file .entry))) (now (name .entry))) ⌝ }
+    ensures found { λ r. ⌜ Found (now (file .entry)) r ⌝ }
 {
     let mut calls = [0u16; 10923];
-    raises_token(file, name, fundings, fundings_count, &mut calls)
+    raises_number(file, name, fundings, fundings_count, &mut calls)
 }
 
-// The token that the state field of that name holds: it starts at zero, and all raises agree on one token; else none.
+// The number of the token that the state field of that name holds: it starts at zero, and all raises agree on one token; else
+// 1. It means the same for the whole file, and is never 0.
+pub fn reserve_number(file: &[u8], name: &[u8], fundings: &[u16], fundings_count: usize) -> usize
+    requires small { ⌜ length (now file) ≤ 32768 ⌝ }
+    requires fundings { ⌜ Fundings (now file) (now fundings) «fundings_count» ⌝ }
+    ensures reads { λ r. ⌜ tokenOf (now (file .entry)) r ≡ reserveToken (fields (now (file .entry))) (now (name .entry)) ⌝ }
+    ensures some { λ r. ⌜ 0 < r ⌝ }
+    ensures small { λ r. ⌜ r < 65536 ⌝ }
+{
+    if !starts_at_zero(file, name) {
+        return 1;
+    }
+    if file.len() <= 6144 {
+        return short_file_number(file, name, fundings, fundings_count);
+    }
+    long_file_number(file, name, fundings, fundings_count)
+}
+
+// The token itself; no bytes where the field holds none.
 pub fn reserve_token<'a>(
     file: &'a [u8],
     name: &[u8],
@@ -227,11 +245,5 @@ pub fn reserve_token<'a>(
     requires fundings { ⌜ Fundings (now file) (now fundings) «fundings_count» ⌝ }
     ensures { λ r. ⌜ now r ≡ reserveToken (fields (now (file .entry))) (now (name .entry)) ⌝ }
 {
-    if !starts_at_zero(file, name) {
-        return &file[..0];
-    }
-    if file.len() <= 6144 {
-        return short_file_token(file, name, fundings, fundings_count);
-    }
-    long_file_token(file, name, fundings, fundings_count)
+    token_of(file, reserve_number(file, name, fundings, fundings_count))
 }

@@ -7,7 +7,6 @@ use native.Mathlib.Omega.{arith}
 use lib.ListN.{length}
 use Rattle.fields.specs.Lists.{known, sameBytes}
 use Rattle.tokens.specs.Tokens.{differ}
-use Rattle.tokens.specs.Agreed.{knownOf}
 
 pub unknown : (a : List ℕ) → length a ≡ 0 → known a ≡ false
 unfolding known
@@ -33,11 +32,3 @@ module _ (a b : List ℕ) where
     pub both-known : (length b ≡ 0 → ⊥) → (v : Bool) → v ≡ sameBytes a b → not v ≡ differ a b
     unfolding differ
     both-known n v e = rw (is-known a m, is-known b n, e)
-
-  pub keeps-first : length b ≡ 0 → a ≡ knownOf a b
-  unfolding knownOf
-  keeps-first e = rw (unknown b e)
-
-  pub takes-second : (length b ≡ 0 → ⊥) → b ≡ knownOf a b
-  unfolding knownOf
-  takes-second n = rw (is-known b n)

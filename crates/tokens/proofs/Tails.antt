@@ -10,7 +10,7 @@ use lib.ListN.{length, drop, length-drop, drop-of-length-le}
 use lib.Seq.{drop-drop, drop-length}
 use Rattle.fields.specs.Field.{fields, lengthOf, after, placeFrom, from}
 
-tail-of : (s t : List ℕ) (j : ℕ) → t ≡ drop j s → t ≡ drop (length s - length t) s
+pub tail-of : (s t : List ℕ) (j : ℕ) → t ≡ drop j s → t ≡ drop (length s - length t) s
 tail-of s t j e = go (leb j (length s)) refl
   where
     go : (k : Bool) → leb j (length s) ≡ k → t ≡ drop (length s - length t) s

@@ -1,16 +1,12 @@
--- Going through tokens with the one that was found so far, and through the entries that fund a map.
+-- Going through the conditions of an entry by a table, and through the entries that fund a map.
 use Prim.Native.Nat.{ℕ}
 use mathlib.Core.Bool.{cond}
 use mathlib.Core.List.{List, [], _∷_}
-use Rattle.fields.specs.Lists.{filter, known}
+use Rattle.fields.specs.Lists.{filter}
 use Rattle.tags.specs.Tag.{Entry}
 use Rattle.fields.specs.Field.{Field, fields, whole, after, front, fieldsFrom}
 use Rattle.tokens.specs.Tokens.{tokenNamed, funds}
 use Rattle.conditions.specs.Table.{conditionAt}
-
--- the second token if it is known, else the first
-unfoldable pub knownOf : List ℕ → List ℕ → List ℕ
-knownOf a b = cond (known b) b a
 
 -- the token that a number of the table of an entry's conditions stands for
 unfoldable pub tokenAt : List ℕ → ℕ → List ℕ

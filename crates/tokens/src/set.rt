@@ -1,9 +1,8 @@
 // SPDX-License-Identifier: Apache-2.0 OR MIT
-// A set of tokens is none, one or several. A token is a part of the file, and no token is the empty part.
+// Whether two tokens differ. A token is a part of the file, and no token is the empty part.
 use fields::bytes::same_bytes;
 ghost use mathlib.Core.Path.{_≡_};
 ghost use Rattle.tokens.specs.Tokens.{differ};
-ghost use Rattle.tokens.specs.Agreed.{knownOf};
 
 // Whether both tokens are known and they differ.
 pub fn tokens_differ(a: &[u8], b: &[u8]) -> bool
@@ -16,14 +15,4 @@ pub fn tokens_differ(a: &[u8], b: &[u8]) -> bool
         return false;
     }
     !same_bytes(a, b)
-}
-
-// The second token if it is known, else the first.
-pub fn known_of<'a>(a: &'a [u8], b: &'a [u8]) -> &'a [u8]
-    ensures { λ r. ⌜ now r ≡ knownOf (now (a .entry)) (now (b .entry)) ⌝ }
-{
-    if b.len() == 0 {
-        return a;
-    }
-    b
 }

@@ -1,10 +1,13 @@
 -- An entry that does not raise the field is passed over, and the first that does is still ahead.
+use Prim.Native.Nat.{_-_}
+use mathlib.Core.Path.{_≡_}
 use borrow.Author.Needs.{needs}
-use lib.ListN.{length}
+use lib.ListN.{length, drop}
 use Rattle.tags.specs.Tag.{Entry}
 use Rattle.fields.proofs.Told.{told}
 use Rattle.fields.proofs.Rows.{from-less}
 use Rattle.fields.proofs.Choosing.{Choosing, choosing-first, choosing-none, choosing-here, choosing-on}
+use Rattle.tokens.proofs.Tails.{tail-first, tail-next}
 use Rattle.reserve_tokens.specs.Raising.{raising}
 use Rattle.reserve_tokens.proofs.raise.first_raising.Statement.{statement}
 use Rattle.reserve_tokens.proofs.raise.first_raising.Tie as tie
@@ -13,15 +16,15 @@ pub first-raising-spec : {M : Type 1} → statement M
 first-raising-spec =
     tie.close
     (tie.spec
-    (λ s name t₀ t. Choosing Entry Entry (raising name) s t)  -- Inv-loop
+    (λ s name t₀ t. Choosing Entry Entry (raising name) s t × (t ≡ drop (length s - length t) s))  -- Inv-loop
     (λ s name t₀ t. length t)  -- μ-loop
     (λ c κs. search needs)  -- first-from-requires
-    (λ c. search choosing-first)  -- loop-holds
+    (λ c. (search choosing-first, search tail-first))  -- loop-holds
     (λ c κs. search needs)  -- is-whole-requires
     (λ c κs. search needs)  -- has-raise-requires
-    (λ c. (search (choosing-here, told), search needs))  -- returns
+    (λ c. (search (choosing-here, told), (search needs, search needs)))  -- returns
     (λ c κs. search needs)  -- after-front-requires
     (λ c κs. search needs)  -- first-from-requires-2
     (λ c. search (from-less, told))  -- loop-less
-    (λ c. search (choosing-on, told))  -- loop-again
-    (λ c. (search (choosing-none, told), search needs)))  -- returns-2
+    (λ c. (search (choosing-on, told), search tail-next))  -- loop-again
+    (λ c. (search (choosing-none, told), (search needs, search needs))))  -- returns-2
