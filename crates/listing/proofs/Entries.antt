@@ -17,6 +17,7 @@ use Rattle.questions.proofs.Accessors.{shown-nth}
 use Rattle.questions.specs.declared.check.Answer.{Answer}
 use Rattle.questions.specs.declared.check.Answer.the-variants.{Passes, Refused}
 use Rattle.tokens.specs.Fundings.{Fundings}
+use Rattle.reserves.specs.Holding.{Right}
 use Rattle.claim.proofs.Fitting.{short-file}
 use Rattle.verdict.proofs.Asking.{entry-missing, entry-counted}
 use Rattle.listing.specs.Output.{Written}
@@ -25,7 +26,7 @@ use Rattle.listing.proofs.Passed.{few-entries}
 use Rattle.listing.proofs.Repeating.{Repeating, repeating-none, repeating-room, repeating-same, repeating-on, repeating-all}
 
 -- t is the file from the n-th entry on; the tables are those of the verdicts
-pub record Entries (file lent before table u fundings : List ℕ) (count : ℕ) (t : List ℕ) (n m : ℕ) : Type 0 where
+pub record Entries (file lent before table u fundings : List ℕ) (count : ℕ) (known t : List ℕ) (n m : ℕ) : Type 0 where
   pub passed : askFile file ≡ passes
   pub counted : n ≤ length (entries (fields file))
   pub here : t ≡ fromNth Entry Entry n file
@@ -34,6 +35,8 @@ pub record Entries (file lent before table u fundings : List ℕ) (count : ℕ) 
   pub same-table : length table ≡ length lent
   pub wide : length fundings ≡ 1930
   pub funded : Fundings file fundings count
+  pub long : length known ≡ 2979
+  pub right : Right file known
 
 module _ (file : List ℕ) (a : Answer) (e : asked a ≡ askFile file) where
   pub refused-listing : (k p : ℕ) → a ≡ Refused k p → (before u : List ℕ) (r : ℕ) → Written (refusalLine k p) before 0 u r → Written (listing file) before 0 u r
@@ -49,9 +52,9 @@ module _ (file : List ℕ) (a : Answer) (e : asked a ≡ askFile file) where
 
 module _ (file lent before : List ℕ) where
   pub entries-none : askFile file ≡ passes → length file ≤ 3 * length lent → (fundings : List ℕ) (count : ℕ) → length fundings ≡ 1930 → Fundings file fundings count →
-      (t : List ℕ) → t ≡ from Entry Entry file → Entries file lent before lent before fundings count t 0 0
+      (known : List ℕ) → length known ≡ 2979 → Right file known → (t : List ℕ) → t ≡ from Entry Entry file → Entries file lent before lent before fundings count known t 0 0
   unfolding fromNth
-  entries-none p r fundings count w f t e =
+  entries-none p r fundings count w f known l q t e =
       record {
         passed = p;
         counted = omega arith;
@@ -61,9 +64,11 @@ module _ (file lent before : List ℕ) where
         same-table = refl;
         wide = w;
         funded = f;
+        long = l;
+        right = q;
       }
 
-  module _ (table u fundings : List ℕ) (count : ℕ) (t : List ℕ) (n m : ℕ) (w : Entries file lent before table u fundings count t n m) where
+  module _ (table u fundings : List ℕ) (count : ℕ) (known t : List ℕ) (n m : ℕ) (w : Entries file lent before table u fundings count known t n m) where
     pub entries-short : length file ≤ 32768
     entries-short = short-file file (w .passed)
 
@@ -99,9 +104,9 @@ module _ (file lent before : List ℕ) where
 
       pub entries-on : (v : List ℕ) (r : ℕ) → Written (entryLines (fields file) n) u m v r → (s next : List ℕ) → s ≡ after t → next ≡ from Entry Entry s →
           (last : List ℕ) → length last ≡ length table → (calls : List ℕ) (k : ℕ) → length calls ≡ length fundings → Fundings file calls k →
-          Entries file lent before last v calls k next (n + 1) r
+          (held : List ℕ) → length held ≡ length known → Right file held → Entries file lent before last v calls k held next (n + 1) r
       unfolding fromNth
-      entries-on v r x s next e f last same calls k same-calls h =
+      entries-on v r x s next e f last same calls k same-calls h held same-held q =
           let one : n + 1 ≡ suc n = omega arith in
           record {
             passed = w .passed;
@@ -112,4 +117,6 @@ module _ (file lent before : List ℕ) where
             same-table = same ∙ w .same-table;
             wide = same-calls ∙ w .wide;
             funded = h;
+            long = same-held ∙ w .long;
+            right = q;
           }

@@ -21,6 +21,7 @@ ghost use Rattle.tags.specs.Tag.{Entry};
 ghost use Rattle.fields.specs.Field.{fields, whole, fromNth};
 ghost use Rattle.questions.specs.Questions.{passes, askFile};
 ghost use Rattle.tokens.specs.Fundings.{Fundings};
+ghost use Rattle.reserves.specs.Holding.{Right};
 ghost use Rattle.listing.specs.Output.{Written};
 ghost use Rattle.listing.specs.Listing as rules;
 ghost use Rattle.listing.specs.Coded.{coverLineAt};
@@ -85,6 +86,7 @@ fn entry_lines(
     table: &mut [u16],
     fundings: &mut [u16],
     fundings_count: &mut usize,
+    known: &mut [u16],
     buffer: &mut [u8],
     at: usize,
 ) -> usize
@@ -94,12 +96,22 @@ fn entry_lines(
     requires table { ⌜ length (now file) ≤ 3 * length (now table) ⌝ }
     requires fundings { ⌜ Fundings (now file) (now fundings) (now «fundings_count») ⌝ }
     requires room { ⌜ at ≤ length (now buffer) ⌝ }
+    requires right { ⌜ Right (now file) (now known) ⌝ }
     ensures lines { λ r. ⌜ Written (rules.entryLines (fields (now (file .entry))) n) (now (buffer .entry)) at (now (buffer .exit)) r ⌝ }
     ensures fundings { λ r. ⌜ Fundings (now (file .entry)) (now (fundings .exit)) (now («fundings_count» .exit)) ⌝ }
+    ensures right { λ r. ⌜ Right (now (file .entry)) (now (known .exit)) ⌝ }
 {
     let mut covers = [0u8; 192];
     let place = less(file.len(), t.len());
-    match placed_verdict(file, place, table, fundings, fundings_count, &mut covers) {
+    match placed_verdict(
+        file,
+        place,
+        table,
+        fundings,
+        fundings_count,
+        known,
+        &mut covers,
+    ) {
         Verdict::Refused { number, place } => refusal_line(number, place, buffer, at),
         Verdict::Rejected { payout, reason: _ } => rejected_line(n, payout, buffer, at),
         Verdict::Accepted { payouts, spare } => {
@@ -117,6 +129,7 @@ fn all_lines(file: &[u8], table: &mut [u16], buffer: &mut [u8]) -> usize
 {
     let mut fundings = [0u16; 1930];
     let mut fundings_count = NOT_LISTED;
+    let mut known = [0u16; 2979];
     let mut t = first_from(file, ENTRY, ENTRY);
     let mut n = 0;
     let mut at = 0;
@@ -128,6 +141,7 @@ fn all_lines(file: &[u8], table: &mut [u16], buffer: &mut [u8]) -> usize
             table,
             &mut fundings,
             &mut fundings_count,
+            &mut known,
             buffer,
             at,
         );

@@ -1,6 +1,6 @@
 -- The backings by number, as the code reads them.
 use Prim.Native.Nat.{ℕ, _-_, _≤_, _<_}
-use mathlib.Core.Path.{_≡_, _∙_}
+use mathlib.Core.Path.{_≡_, refl, _∙_}
 use mathlib.Core.Bool.{not}
 use mathlib.Core.List.{List, []}
 use native.Mathlib.Omega.{arith}
@@ -11,8 +11,11 @@ use Rattle.fields.specs.Field.{fields, front, part}
 use Rattle.questions.specs.Model.{nameOf}
 use Rattle.walking.specs.Walking.{peel, receiver, assetParams}
 use Rattle.bounds.specs.Backing.{backingField}
+use Rattle.walking.specs.Table.{placedAt}
 use Rattle.tokens.specs.Tokens.{admittedInflowToken, fundingToken}
-use Rattle.matching.specs.Tables.{Named, entryOf, amountAt, tokenAt}
+use Rattle.tokens.specs.Fundings.{tokenOf, tokensNumber}
+use Rattle.tokens.proofs.Numbers.{number-token}
+use Rattle.matching.specs.Tables.{Named, Admitted, entryOf, amountAt, tokenAt}
 
 -- a backing by number
 module _ (file : List ℕ) (place : ℕ) (table : List ℕ) (count i : ℕ) where
@@ -41,3 +44,26 @@ module _ (file : List ℕ) (place : ℕ) (table : List ℕ) (count i : ℕ) wher
 -- what is left of a small file is small
 pub small-rest : (file : List ℕ) (n : ℕ) (x : List ℕ) → x ≡ drop n file → length file ≤ 32768 → length x ≤ 32768
 small-rest file n x e h = rw (e, length-drop) (omega arith)
+
+-- The token that an entry admits, by its number
+module _ (entry : List ℕ) (number : ℕ) where
+  pub remembered-token : Admitted entry number → (number ≡ 65535 → ⊥) → (r : List ℕ) → r ≡ tokenOf entry number → r ≡ admittedInflowToken (front entry)
+  remembered-token v some r e = e ∙ v .told some
+
+  module _ (k : number ≡ tokensNumber entry (placedAt entry 0)) where
+    pub worked-out-token : (r : List ℕ) → r ≡ tokenOf entry number → r ≡ admittedInflowToken (front entry)
+    worked-out-token r e = number-token entry number k r e
+
+    pub worked-out-admits : Admitted entry number
+    worked-out-admits = record { told = λ some. number-token entry number k (tokenOf entry number) refl }
+
+-- nothing is remembered at first
+pub admits-nothing : (entry : List ℕ) → Admitted entry 65535
+admits-nothing entry = record { told = λ some. absurd (some refl) }
+
+-- the part of the file that starts with the entry is the one of which something is remembered
+pub entry-admits : (file : List ℕ) (n number : ℕ) (x : List ℕ) → x ≡ drop n file → Admitted (drop n file) number → Admitted x number
+entry-admits file n number x e v = rw e v
+
+pub file-admits : (file : List ℕ) (n number : ℕ) (x : List ℕ) → x ≡ drop n file → Admitted x number → Admitted (drop n file) number
+file-admits file n number x e v = rw e at v

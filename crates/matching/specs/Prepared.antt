@@ -17,5 +17,5 @@ pub record Prepared (file : List ℕ) (place : ℕ) (table : List ℕ) (count to
   pub among : k < askedCount
   pub payout : front s ≡ front (drop (getD asked k 0) file)
   pub listed : Candidates file place asked askedCount candidates candidateCount
-  pub right : Right file asked askedCount known
+  pub right : Right file known
   pub funded : Fundings file fundings fundingsCount

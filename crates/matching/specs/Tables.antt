@@ -13,6 +13,7 @@ use Rattle.equality.specs.Equality.{exprEq}
 use Rattle.equality.specs.Amount.{amountOf}
 use Rattle.bounds.specs.Bounds.{boundedByBacking}
 use Rattle.tokens.specs.Tokens.{admittedInflowToken, fundingToken}
+use Rattle.tokens.specs.Fundings.{tokenOf}
 use Rattle.matching.specs.Matching.{Backing, backings}
 use Rattle.matching.specs.Matching.Source.{debit, parameter}
 use Rattle.matching.specs.Numbers.{markIs}
@@ -40,6 +41,11 @@ pub record Tabled (file : List ℕ) (place : ℕ) (table : List ℕ) (count tota
   pub all : total ≡ count + length (assetParams (entryOf file place))
   pub few : total ≤ 64
   pub named : (i : ℕ) → i < total → Named file place table count i
+
+-- what is remembered of the token that an entry admits, with which this part of the file starts: 65,535 says nothing, and any
+-- other is the token's number
+pub record Admitted (entry : List ℕ) (number : ℕ) : Type 0 where
+  pub told : (number ≡ 65535 → ⊥) → tokenOf entry number ≡ admittedInflowToken (front entry)
 
 -- the call of debit number i
 abbrev pub debitAt : (file table : List ℕ) → ℕ → Field

@@ -13,12 +13,13 @@ use reserves::payout::payout_amount;
 use walking::shape::is_present;
 ghost use mathlib.Core.Path.{_≡_};
 ghost use Prim.Native.Nat.{_+_, _≤_, _<_};
+ghost use lib.ListN.{drop};
 ghost use Rattle.fields.specs.Lists.{any};
 ghost use Rattle.fields.specs.Field.{fields, front};
 ghost use Rattle.tokens.specs.Fundings.{Fundings};
 ghost use Rattle.reserves.specs.Holding.{Right};
 ghost use Rattle.matching.specs.Matching.{byReserve, answer};
-ghost use Rattle.matching.specs.Tables.{Tabled, entryOf, backingsOf};
+ghost use Rattle.matching.specs.Tables.{Tabled, Admitted, entryOf, backingsOf};
 ghost use Rattle.matching.specs.Standing.{marksOf};
 ghost use Rattle.matching.specs.Prepared.{Prepared};
 ghost use Rattle.matching.specs.Coded.{coded, codedReason, conflictBy, equalsAmount, byBacking, beforeReserve, tried, coverAt, reserveAt, afterCover, afterAnswer, AnswersFor};
@@ -111,10 +112,13 @@ fn by_backing(
     bounding: bool,
     fundings: &[u16],
     fundings_count: usize,
+    admitted: &mut usize,
 ) -> Tried
     requires tabled { ⌜ Tabled (now file) place (now backings) count total ⌝ }
     requires fundings { ⌜ Fundings (now file) (now fundings) «fundings_count» ⌝ }
-    ensures { λ r. ⌜ r ≡ tried (byBacking bounding (marksOf (backingsOf (now (file .entry)) place) marks) (front (now (s .entry)))) ⌝ }
+    requires admits { ⌜ Admitted (drop place (now file)) (now admitted) ⌝ }
+    ensures answer { λ r. ⌜ r ≡ tried (byBacking bounding (marksOf (backingsOf (now (file .entry)) place) marks) (front (now (s .entry)))) ⌝ }
+    ensures admits { λ r. ⌜ Admitted (drop place (now (file .entry))) (now (admitted .exit)) ⌝ }
 {
     let i = first_backing(
         file,
@@ -130,7 +134,17 @@ fn by_backing(
     if total <= i {
         return Tried::Open;
     }
-    if tokens_conflict(file, place, backings, count, i, s, fundings, fundings_count) {
+    if tokens_conflict(
+        file,
+        place,
+        backings,
+        count,
+        i,
+        s,
+        fundings,
+        fundings_count,
+        admitted,
+    ) {
         return Tried::Decided {
             answer: Answer::Rejected {
                 reason: conflict_reason(bounding),
@@ -181,10 +195,13 @@ fn before_reserve(
     s: &[u8],
     fundings: &[u16],
     fundings_count: usize,
+    admitted: &mut usize,
 ) -> Tried
     requires tabled { ⌜ Tabled (now file) place (now backings) count total ⌝ }
     requires fundings { ⌜ Fundings (now file) (now fundings) «fundings_count» ⌝ }
-    ensures { λ r. ⌜ r ≡ tried (beforeReserve (marksOf (backingsOf (now (file .entry)) place) marks) (front (now (s .entry)))) ⌝ }
+    requires admits { ⌜ Admitted (drop place (now file)) (now admitted) ⌝ }
+    ensures answer { λ r. ⌜ r ≡ tried (beforeReserve (marksOf (backingsOf (now (file .entry)) place) marks) (front (now (s .entry)))) ⌝ }
+    ensures admits { λ r. ⌜ Admitted (drop place (now (file .entry))) (now (admitted .exit)) ⌝ }
 {
     if !is_present(payout_amount(s)) {
         return rejected(Reason::SplitWithoutAmount);
@@ -200,6 +217,7 @@ fn before_reserve(
         false,
         fundings,
         fundings_count,
+        admitted,
     );
     if let Tried::Decided { answer } = equal {
         return Tried::Decided { answer: answer };
@@ -218,6 +236,7 @@ fn before_reserve(
         true,
         fundings,
         fundings_count,
+        admitted,
     )
 }
 
@@ -241,7 +260,7 @@ fn by_reserve(
 ) -> Answer
     requires { ⌜ Prepared (now file) place (now backings) count total (now asked) «asked_count» k (now candidates) «candidate_count» (now fundings) «fundings_count» (now known) (now s) ⌝ }
     ensures answers { λ r. ⌜ r ≡ coded (byReserve (fields (now (file .entry))) (entryOf (now (file .entry)) place) (marksOf (backingsOf (now (file .entry)) place) marks) (front (now (s .entry)))) ⌝ }
-    ensures right { λ r. ⌜ Right (now (file .entry)) (now (asked .entry)) «asked_count» (now (known .exit)) ⌝ }
+    ensures right { λ r. ⌜ Right (now (file .entry)) (now (known .exit)) ⌝ }
 {
     match reserve_bounding_payout(
         file,
@@ -293,10 +312,13 @@ fn cover_payout(
     fundings: &[u16],
     fundings_count: usize,
     known: &mut [u16],
+    admitted: &mut usize,
 ) -> Answer
-    requires { ⌜ Prepared (now file) place (now backings) count total (now asked) «asked_count» k (now candidates) «candidate_count» (now fundings) «fundings_count» (now known) (now s) ⌝ }
+    requires prepared { ⌜ Prepared (now file) place (now backings) count total (now asked) «asked_count» k (now candidates) «candidate_count» (now fundings) «fundings_count» (now known) (now s) ⌝ }
+    requires admits { ⌜ Admitted (drop place (now file)) (now admitted) ⌝ }
     ensures answers { λ r. ⌜ r ≡ coded (answer (fields (now (file .entry))) (entryOf (now (file .entry)) place) (marksOf (backingsOf (now (file .entry)) place) marks) (front (now (s .entry)))) ⌝ }
-    ensures right { λ r. ⌜ Right (now (file .entry)) (now (asked .entry)) «asked_count» (now (known .exit)) ⌝ }
+    ensures right { λ r. ⌜ Right (now (file .entry)) (now (known .exit)) ⌝ }
+    ensures admits { λ r. ⌜ Admitted (drop place (now (file .entry))) (now (admitted .exit)) ⌝ }
 {
     let found = before_reserve(
         file,
@@ -308,6 +330,7 @@ fn cover_payout(
         s,
         fundings,
         fundings_count,
+        admitted,
     );
     if let Tried::Decided { answer } = found {
         return answer;
@@ -365,12 +388,15 @@ pub fn answer_payout(
     fundings: &[u16],
     fundings_count: usize,
     known: &mut [u16],
+    admitted: &mut usize,
 ) -> Answered
     requires prepared { ⌜ Prepared (now file) place (now backings) count total (now asked) «asked_count» k (now candidates) «candidate_count» (now fundings) «fundings_count» (now known) (now s) ⌝ }
+    requires admits { ⌜ Admitted (drop place (now file)) (now admitted) ⌝ }
     requires room { ⌜ marks .uses < 64 ⌝ }
     ensures answers { λ r. ⌜ AnswersFor (fields (now (file .entry))) (entryOf (now (file .entry)) place) (backingsOf (now (file .entry)) place) marks (front (now (s .entry))) r ⌝ }
     ensures uses { λ r. ⌜ r .marks .uses ≤ marks .uses + 1 ⌝ }
-    ensures right { λ r. ⌜ Right (now (file .entry)) (now (asked .entry)) «asked_count» (now (known .exit)) ⌝ }
+    ensures right { λ r. ⌜ Right (now (file .entry)) (now (known .exit)) ⌝ }
+    ensures admits { λ r. ⌜ Admitted (drop place (now (file .entry))) (now (admitted .exit)) ⌝ }
 {
     let answer = cover_payout(
         file,
@@ -388,6 +414,7 @@ pub fn answer_payout(
         fundings,
         fundings_count,
         known,
+        admitted,
     );
     with_marks(marks, count, answer)
 }

@@ -8,25 +8,27 @@ use fields::front::part_of;
 use fields::table::number_at;
 use questions::state::name_of;
 use reserves::payout::payout_token;
+use tokens::ledger::NOT_LISTED;
 use tokens::ledger::funding_token;
+use tokens::number::token_of;
+use tokens::number::tokens_number;
 use tokens::set::tokens_differ;
-use tokens::token::admitted_inflow_token;
 use walking::peel::peel;
 use walking::shape::receiver;
 ghost use mathlib.Core.Path.{_≡_};
 ghost use mathlib.Core.Bool.{not, false};
 ghost use Prim.Native.Nat.{_≤_};
 ghost use lib.Dec.{ltb};
-ghost use lib.ListN.{length};
+ghost use lib.ListN.{length, drop};
 ghost use Rattle.fields.specs.Field.{front, part};
 ghost use Rattle.walking.specs.Walking.{peel};
 ghost use Rattle.equality.specs.Equality.{exprEq};
 ghost use Rattle.bounds.specs.Bounds.{boundedByBacking};
 ghost use Rattle.bounds.specs.Backing.{backingField};
-ghost use Rattle.tokens.specs.Tokens.{differ};
+ghost use Rattle.tokens.specs.Tokens.{differ, admittedInflowToken};
 ghost use Rattle.tokens.specs.Fundings.{Fundings};
 ghost use Rattle.reserves.specs.Payouts.{payoutToken};
-ghost use Rattle.matching.specs.Tables.{Named, amountAt, tokenAt};
+ghost use Rattle.matching.specs.Tables.{Named, Admitted, amountAt, tokenAt};
 
 // The amount, peeled, of the debit at the front of s.
 fn debit_amount(s: &[u8]) -> &[u8]
@@ -91,6 +93,23 @@ pub fn backing_bounds(
     )
 }
 
+// The token that the entry at the front of a part of the file admits. It is worked out where a match first asks for it, and
+// then remembered by its number.
+fn admitted_token<'a>(entry: &'a [u8], admitted: &mut usize) -> &'a [u8]
+    requires small { ⌜ length (now entry) ≤ 32768 ⌝ }
+    requires admits { ⌜ Admitted (now entry) (now admitted) ⌝ }
+    ensures reads { λ r. ⌜ now r ≡ admittedInflowToken (front (now (entry .entry))) ⌝ }
+    ensures admits { λ r. ⌜ Admitted (now (entry .entry)) (now (admitted .exit)) ⌝ }
+{
+    let remembered = *admitted;
+    if remembered != NOT_LISTED {
+        return token_of(entry, remembered);
+    }
+    let number = tokens_number(entry, 0);
+    *admitted = number;
+    token_of(entry, number)
+}
+
 // The token of backing number i. It takes long to work out, so that it is asked only of a backing that matches.
 pub fn backing_token<'a>(
     file: &'a [u8],
@@ -100,16 +119,19 @@ pub fn backing_token<'a>(
     i: usize,
     fundings: &[u16],
     fundings_count: usize,
+    admitted: &mut usize,
 ) -> &'a [u8]
     requires small { ⌜ length (now file) ≤ 32768 ⌝ }
     requires fundings { ⌜ Fundings (now file) (now fundings) «fundings_count» ⌝ }
-    ensures { λ r. ⌜ now r ≡ tokenAt (now (file .entry)) place (now (backings .entry)) count i ⌝ }
+    requires admits { ⌜ Admitted (drop place (now file)) (now admitted) ⌝ }
+    ensures reads { λ r. ⌜ now r ≡ tokenAt (now (file .entry)) place (now (backings .entry)) count i ⌝ }
+    ensures admits { λ r. ⌜ Admitted (drop place (now (file .entry))) (now (admitted .exit)) ⌝ }
 {
     if i < count {
         let debit = skip(file, number_at(backings, i));
         return funding_token(file, receiver(debit), fundings, fundings_count);
     }
-    admitted_inflow_token(skip(file, place))
+    admitted_token(skip(file, place), admitted)
 }
 
 // Whether its token and that of the payout at the front of s are both known and differ.
@@ -122,13 +144,25 @@ pub fn tokens_conflict(
     s: &[u8],
     fundings: &[u16],
     fundings_count: usize,
+    admitted: &mut usize,
 ) -> bool
     requires small { ⌜ length (now file) ≤ 32768 ⌝ }
     requires fundings { ⌜ Fundings (now file) (now fundings) «fundings_count» ⌝ }
-    ensures { λ r. ⌜ r ≡ differ (tokenAt (now (file .entry)) place (now (backings .entry)) count i) (payoutToken (front (now (s .entry)))) ⌝ }
+    requires admits { ⌜ Admitted (drop place (now file)) (now admitted) ⌝ }
+    ensures answer { λ r. ⌜ r ≡ differ (tokenAt (now (file .entry)) place (now (backings .entry)) count i) (payoutToken (front (now (s .entry)))) ⌝ }
+    ensures admits { λ r. ⌜ Admitted (drop place (now (file .entry))) (now (admitted .exit)) ⌝ }
 {
     tokens_differ(
-        backing_token(file, place, backings, count, i, fundings, fundings_count),
+        backing_token(
+            file,
+            place,
+            backings,
+            count,
+            i,
+            fundings,
+            fundings_count,
+            admitted,
+        ),
         payout_token(s),
     )
 }

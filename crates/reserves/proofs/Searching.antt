@@ -68,7 +68,7 @@ module _ (file : List ℕ) (amount : Field) where
 pub record Searching (file : List ℕ) (place : ℕ) (amount asked : List ℕ) (count k : ℕ) (l : List ℕ) (n : ℕ) (before table : List ℕ) (i : ℕ) : Type 0 where
   pub within : i ≤ n
   pub room : n ≤ length l
-  pub right : Right file asked count table
+  pub right : Right file table
   pub wide : length table ≡ length before
   pub here : equalFrom file (front amount) (drop i (take n l)) ≡ drop i (take n l)
   pub left : firstOf file (front amount) (λ j. holdsToken file asked j k) (drop i (take n l)) ≡ bounding file place asked k
@@ -100,7 +100,7 @@ module _ (file : List ℕ) (place : ℕ) (amount asked : List ℕ) (count k : �
     pub no-inflow : not b ≡ true → Nothing ≡ bounding file place asked k
     no-inflow h = none-contained file place asked k (rw d at (sym contained ∙ not-true b h))
 
-    pub searching-first : not b ≡ false → i ≤ n → (table : List ℕ) → Right file asked count table → Searching file place amount asked count k l n table table i
+    pub searching-first : not b ≡ false → i ≤ n → (table : List ℕ) → Right file table → Searching file place amount asked count k l n table table i
     searching-first h m table r = record {
       within = m;
       room = candidates-room file place asked count l n v;
@@ -144,7 +144,7 @@ module _ (file : List ℕ) (place : ℕ) (amount asked : List ℕ) (count k : �
       searching-found o = rw o at step
 
       pub searching-on : b ≡ false → (u : ℕ) → drop u (take n l) ≡ equalFrom file (front amount) (drop (i + 2) (take n l)) → u ≤ n →
-          (last : List ℕ) → Right file asked count last → length last ≡ length table → Searching file place amount asked count k l n before last u
+          (last : List ℕ) → Right file last → length last ≡ length table → Searching file place amount asked count k l n before last u
       searching-on o u q m last r w = record {
         within = m;
         room = v .room;

@@ -1,12 +1,13 @@
--- Which of the tokens that are asked for a state field holds, and what is remembered of it.
-use Prim.Native.Nat.{ℕ, zero, suc, _<_}
+-- Whether a state field holds the token that is asked for, and what is remembered of it.
+use Prim.Native.Nat.{ℕ}
 use mathlib.Core.Path.{_≡_}
-use mathlib.Core.Bool.{Bool, false, _&&_}
+use mathlib.Core.Bool.{Bool, _&&_}
 use mathlib.Core.List.{List, []}
 use lib.ListN.{getD}
 use Rattle.fields.specs.Lists.{sameBytes, known}
 use Rattle.fields.specs.Field.{fields}
 use Rattle.questions.specs.Model.{stateNames}
+use Rattle.tokens.specs.Fundings.{tokenOf}
 use Rattle.reserve_tokens.specs.ReserveTokens.{reserveToken}
 use Rattle.reserves.specs.Asked.{askedToken}
 
@@ -22,18 +23,7 @@ isToken t u = known u && sameBytes t u
 unfoldable pub holdsToken : (file asked : List ℕ) (i k : ℕ) → Bool
 holdsToken file asked i k = isToken (reserveToken (fields file) (stateName file i)) (askedToken file asked k)
 
--- what a number that is remembered says of the k-th token: 0 nothing, so that another answer counts; 1 that the field holds
--- none of those that are asked for; j + 2 that the j-th is its token
-unfoldable pub said : (file asked : List ℕ) → Bool → ℕ → ℕ → Bool
-said file asked other zero k = other
-said file asked other (suc zero) k = false
-said file asked other (suc (suc j)) k = isToken (askedToken file asked j) (askedToken file asked k)
-
--- a number that may be remembered of a field whose token is t: it says nothing wrong of the first `count` tokens
-pub record Numbered (file asked : List ℕ) (count : ℕ) (t : List ℕ) (number : ℕ) : Type 0 where
-  pub small : number < 65536
-  pub each : (k : ℕ) → k < count → said file asked (isToken t (askedToken file asked k)) number k ≡ isToken t (askedToken file asked k)
-
--- the numbers of a table, one a state field, say nothing wrong
-pub record Right (file asked : List ℕ) (count : ℕ) (table : List ℕ) : Type 0 where
-  pub each : (i k : ℕ) → k < count → said file asked (holdsToken file asked i k) (getD table i 0) k ≡ holdsToken file asked i k
+-- the numbers of a table, one a state field, say nothing wrong: 0 says nothing, and any other is the number of the token that
+-- the field holds, 1 where it holds none
+pub record Right (file table : List ℕ) : Type 0 where
+  pub each : (i : ℕ) → (getD table i 0 ≡ 0 → ⊥) → tokenOf file (getD table i 0) ≡ reserveToken (fields file) (stateName file i)

@@ -68,9 +68,9 @@ pub fn reserve_bounding_payout(
     requires fundings { ⌜ Fundings (now file) (now fundings) «fundings_count» ⌝ }
     requires among { ⌜ k < count ⌝ }
     requires listed { ⌜ Candidates (now file) place (now asked) count (now candidates) «candidate_count» ⌝ }
-    requires right { ⌜ Right (now file) (now asked) count (now known) ⌝ }
+    requires right { ⌜ Right (now file) (now known) ⌝ }
     ensures found { λ r. ⌜ r ≡ reserveOf (fields (now (file .entry))) (reserveBoundingPayout (fields (now (file .entry))) (front (drop place (now (file .entry)))) (askedAmount (now (file .entry)) (now (asked .entry)) k) (askedToken (now (file .entry)) (now (asked .entry)) k)) ⌝ }
-    ensures right { λ r. ⌜ Right (now (file .entry)) (now (asked .entry)) count (now (known .exit)) ⌝ }
+    ensures right { λ r. ⌜ Right (now (file .entry)) (now (known .exit)) ⌝ }
 {
     let amount = asked_amount(file, asked, k);
     let mut i = first_equal(file, amount, candidates, candidate_count, 0);
@@ -82,16 +82,7 @@ pub fn reserve_bounding_payout(
     }
     while i < candidate_count {
         let index = number_at(candidates, i + 1);
-        if holds_token(
-            file,
-            index,
-            asked,
-            count,
-            k,
-            fundings,
-            fundings_count,
-            known,
-        ) {
+        if holds_token(file, index, asked, k, fundings, fundings_count, known) {
             return Reserve::Covers { index: index };
         }
         let next = first_equal(file, amount, candidates, candidate_count, i + 2);

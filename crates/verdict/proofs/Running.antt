@@ -14,10 +14,9 @@ use Rattle.walking.specs.Table.{placedAt}
 use Rattle.tokens.specs.Fundings.{Fundings}
 use Rattle.reserves.specs.Candidates.{Candidates}
 use Rattle.reserves.specs.Holding.{Right}
-use Rattle.reserves.proofs.Remembering.{zeros-right}
 use Rattle.matching.specs.Matching.{Cover, Reason, Marks, Backing, backings, answer, start}
 use Rattle.matching.specs.Matching.Answer.{cover, rejection}
-use Rattle.matching.specs.Tables.{Tabled, entryOf, backingsOf}
+use Rattle.matching.specs.Tables.{Tabled, Admitted, entryOf, backingsOf}
 use Rattle.matching.specs.Prepared.{Prepared}
 use Rattle.matching.specs.Standing.{Stands, allFree}
 use Rattle.matching.specs.Coded.{coverOf, reasonOf, codedReason, answerOf, Answers, AnswersFor}
@@ -31,6 +30,7 @@ use Rattle.matching.specs.declared.answer.Answer.the-variants.{Covered, Rejecte
 use Rattle.matching.specs.declared.answer.Answered.{Answered}
 use Rattle.matching.proofs.Backed.{backings-many}
 use Rattle.matching.proofs.Kept.{start-stands}
+use Rattle.matching.proofs.Reading.{admits-nothing}
 use Rattle.matching.proofs.Ways.{Step, a-step}
 use Rattle.claim.specs.Verdict.{Verdict, refused, rejected, accepted, withCover, matchFrom, matching, backingCount, spare, kind, index, sheet, written}
 use Rattle.verdict.specs.Sheet.{coverBytes}
@@ -117,7 +117,7 @@ payouts-room file place table count l = table-long file place table count (l .li
 -- The pass so far
 
 pub record Running (file : List ℕ) (place : ℕ) (table : List ℕ) (count : ℕ) (debits : List ℕ) (debitCount total : ℕ)
-    (candidates : List ℕ) (candidateCount : ℕ) (fundings : List ℕ) (fundingsCount : ℕ) (known cover-bytes : List ℕ) (marks : Coded) (k : ℕ) : Type 0 where
+    (candidates : List ℕ) (candidateCount : ℕ) (fundings : List ℕ) (fundingsCount : ℕ) (lent known cover-bytes : List ℕ) (marks : Coded) (admitted k : ℕ) : Type 0 where
   pub state : Marks
   pub done : List Cover
   pub reached : k ≤ count
@@ -129,17 +129,18 @@ pub record Running (file : List ℕ) (place : ℕ) (table : List ℕ) (count : �
   pub within : Within (fields file) (entryOf file place) state
   pub listed : Candidates file place table count candidates candidateCount
   pub funded : Fundings file fundings fundingsCount
-  pub right : Right file table count known
-  pub long : length known ≡ 2979
+  pub right : Right file known
+  pub long : length known ≡ length lent
+  pub admits : Admitted (drop place file) admitted
   pub wide : length cover-bytes ≡ 192
   pub bytes : take (3 * k) cover-bytes ≡ sheet done
   pub rest : matching (fields file) (entryOf file place)
       ≡ withCovers done (matchFrom (fields file) (entryOf file place) state k (drop k (payouts (entryOf file place))))
 
 module _ (file : List ℕ) (place : ℕ) (table : List ℕ) (count : ℕ) (debits : List ℕ) (debitCount total : ℕ) (candidates : List ℕ) (candidateCount : ℕ) (fundings : List ℕ) (fundingsCount : ℕ) where
-  pub running-none : Payouts file place table count → Tabled file place debits debitCount total → Candidates file place table count candidates candidateCount → Fundings file fundings fundingsCount → (m : Coded) → m ≡ allFree → Running file place table count debits debitCount total candidates candidateCount fundings fundingsCount (replicate 2979 0) (replicate 192 0) m 0
+  pub running-none : Payouts file place table count → Tabled file place debits debitCount total → Candidates file place table count candidates candidateCount → Fundings file fundings fundingsCount → (lent : List ℕ) → Right file lent → (m : Coded) → m ≡ allFree → Running file place table count debits debitCount total candidates candidateCount fundings fundingsCount lent lent (replicate 192 0) m 65535 0
   unfolding start matching sheet allFree
-  running-none l d c o m e =
+  running-none l d c o lent q m e =
       let few : length (backingsOf file place) ≤ 64 = omega (arith, backings-many file place debits debitCount total d, d .few) in
       record {
         state = start (fields file) (entryOf file place);
@@ -153,14 +154,15 @@ module _ (file : List ℕ) (place : ℕ) (table : List ℕ) (count : ℕ) (debit
         within = λ f k. k;
         listed = c;
         funded = o;
-        right = zeros-right file table count 2979;
-        long = length-replicate {A = ℕ} 2979 0;
+        right = q;
+        long = refl;
+        admits = admits-nothing (drop place file);
         wide = length-replicate {A = ℕ} 192 0;
         bytes = refl;
         rest = refl;
       }
 
-  module _ (known bytes : List ℕ) (marks : Coded) (k : ℕ) (v : Running file place table count debits debitCount total candidates candidateCount fundings fundingsCount known bytes marks k) where
+  module _ (lent known bytes : List ℕ) (marks : Coded) (admitted k : ℕ) (v : Running file place table count debits debitCount total candidates candidateCount fundings fundingsCount lent known bytes marks admitted k) where
     abbrev l : Payouts file place table count
     l = v .paid
 
@@ -173,8 +175,14 @@ module _ (file : List ℕ) (place : ℕ) (table : List ℕ) (count : ℕ) (debit
     abbrev entry : Field
     entry = entryOf file place
 
-    pub running-long : length known ≡ 2979
+    pub running-long : length known ≡ length lent
     running-long = v .long
+
+    pub running-right : Right file known
+    running-right = v .right
+
+    pub running-admits : Admitted (drop place file) admitted
+    running-admits = v .admits
 
     pub running-wide : length bytes ≡ 192
     running-wide = v .wide
@@ -257,9 +265,9 @@ module _ (file : List ℕ) (place : ℕ) (table : List ℕ) (count : ℕ) (debit
               let next : k + 1 ≡ suc k = omega arith in
               v .rest ∙ rw (left-over, matchFrom, same, next) (one-more (v .done) (coverOf c) (matchFrom model entry (answers .after) (suc k) (drop (suc k) (payouts entry))))
 
-          covered-on : r .marks .uses ≤ marks .uses + 1 → (last : List ℕ) → length last ≡ length known → Right file table count last → (kk ii : ℕ) → kk ≡ kind (coverOf c) → ii ≡ index (coverOf c) →
-              (u : List ℕ) → u ≡ sets bytes (3 * k) (coverBytes kk ii) → (m : Coded) → m ≡ r .marks → Running file place table count debits debitCount total candidates candidateCount fundings fundingsCount last u m (k + 1)
-          covered-on less last same-known right kk ii x y u w m z =
+          covered-on : r .marks .uses ≤ marks .uses + 1 → (last : List ℕ) → length last ≡ length known → Right file last → (next : ℕ) → Admitted (drop place file) next → (kk ii : ℕ) → kk ≡ kind (coverOf c) → ii ≡ index (coverOf c) →
+              (u : List ℕ) → u ≡ sets bytes (3 * k) (coverBytes kk ii) → (m : Coded) → m ≡ r .marks → Running file place table count debits debitCount total candidates candidateCount fundings fundingsCount lent last u m next (k + 1)
+          covered-on less last same-known right next admits kk ii x y u w m z =
               let three : u ≡ sets bytes (3 * k) (sheet (coverOf c ∷ [])) = w ∙ rw (x, y) (ap (λ l. sets bytes (3 * k) l) (bytes-of (coverOf c) index-small)) in
               record {
                 state = answers .after;
@@ -275,20 +283,21 @@ module _ (file : List ℕ) (place : ℕ) (table : List ℕ) (count : ℕ) (debit
                 funded = v .funded;
                 right = right;
                 long = same-known ∙ v .long;
+                admits = admits;
                 wide = rw three (length-sets bytes (3 * k) (sheet (coverOf c ∷ [])) ∙ v .wide);
                 bytes = written-on (v .done) (coverOf c) bytes u k (v .many) (v .bytes) (omega (arith, v .wide, h, l .few)) three;
                 rest = rest-on;
               }
 
-        pub running-on : (kindIn (r .answer) ≡ 0 → ⊥) → r .marks .uses ≤ marks .uses + 1 → (last : List ℕ) → length last ≡ length known → Right file table count last →
-            (kk ii : ℕ) → kk ≡ kindIn (r .answer) → ii ≡ indexIn (r .answer) → (u : List ℕ) → u ≡ sets bytes (3 * k) (coverBytes kk ii) → (m : Coded) → m ≡ r .marks →
-            Running file place table count debits debitCount total candidates candidateCount fundings fundingsCount last u m (k + 1)
+        pub running-on : (kindIn (r .answer) ≡ 0 → ⊥) → r .marks .uses ≤ marks .uses + 1 → (last : List ℕ) → length last ≡ length known → Right file last →
+            (next : ℕ) → Admitted (drop place file) next → (kk ii : ℕ) → kk ≡ kindIn (r .answer) → ii ≡ indexIn (r .answer) → (u : List ℕ) → u ≡ sets bytes (3 * k) (coverBytes kk ii) → (m : Coded) → m ≡ r .marks →
+            Running file place table count debits debitCount total candidates candidateCount fundings fundingsCount lent last u m next (k + 1)
         unfolding kindIn indexIn
-        running-on some less last same-known right kk ii x y u w m z = go (r .answer) refl
+        running-on some less last same-known right next admits kk ii x y u w m z = go (r .answer) refl
           where
-            go : (a : Answer) → r .answer ≡ a → Running file place table count debits debitCount total candidates candidateCount fundings fundingsCount last u m (k + 1)
+            go : (a : Answer) → r .answer ≡ a → Running file place table count debits debitCount total candidates candidateCount fundings fundingsCount lent last u m next (k + 1)
             go (Rejected q) e = absurd (some (ap kindIn e))
-            go (Covered c) e = covered-on c e less last same-known right kk ii (x ∙ ap kindIn e) (y ∙ ap indexIn e) u w m z
+            go (Covered c) e = covered-on c e less last same-known right next admits kk ii (x ∙ ap kindIn e) (y ∙ ap indexIn e) u w m z
 
     -- there is room for one more reserve
     pub running-room : k < count → marks .uses < 64

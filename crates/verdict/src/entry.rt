@@ -28,6 +28,7 @@ ghost use Rattle.fields.specs.Field.{fields};
 ghost use Rattle.walking.specs.Table.{placedAt};
 ghost use Rattle.tokens.specs.Fundings.{Fundings};
 ghost use Rattle.reserves.specs.Candidates.{Candidates};
+ghost use Rattle.reserves.specs.Holding.{Right};
 ghost use Rattle.matching.specs.Tables.{Tabled, entryOf};
 ghost use Rattle.matching.specs.Coded.{coverOf, codedReason};
 ghost use Rattle.claim.specs.Verdict.{kind, index, matching, entryAt, entryVerdict, spare, written};
@@ -159,6 +160,7 @@ fn match_payouts(
     candidate_count: usize,
     fundings: &[u16],
     fundings_count: usize,
+    known: &mut [u16],
     covers: &mut [u8],
 ) -> Verdict
     requires tabled { ⌜ Tabled (now file) place (now backings) «debit_count» total ⌝ }
@@ -166,12 +168,14 @@ fn match_payouts(
     requires candidates { ⌜ Candidates (now file) place (now payouts) «payout_count» (now candidates) «candidate_count» ⌝ }
     requires fundings { ⌜ Fundings (now file) (now fundings) «fundings_count» ⌝ }
     requires room { ⌜ 3 * «payout_count» ≤ length (now covers) ⌝ }
+    requires right { ⌜ Right (now file) (now known) ⌝ }
     ensures answer { λ r. ⌜ r ≡ coded (spare (entryOf (now (file .entry)) place)) (matching (fields (now (file .entry))) (entryOf (now (file .entry)) place)) ⌝ }
     ensures covers { λ r. ⌜ now (covers .exit) ≡ written (matching (fields (now (file .entry))) (entryOf (now (file .entry)) place)) (now (covers .entry)) ⌝ }
+    ensures right { λ r. ⌜ Right (now (file .entry)) (now (known .exit)) ⌝ }
 {
-    let mut known = [0u16; 2979];
     let mut sheet = [0u8; 192];
     let mut marks = all_free();
+    let mut admitted = NOT_LISTED;
     let mut k = 0;
     while k < payout_count {
         let payout = nth_payout(file, payouts, k);
@@ -190,7 +194,8 @@ fn match_payouts(
             candidate_count,
             fundings,
             fundings_count,
-            &mut known,
+            known,
+            &mut admitted,
         );
         let answer = answered.answer;
         let kind = kind_in(answer);
@@ -233,15 +238,18 @@ fn backed_verdict(
     payout_count: usize,
     fundings: &mut [u16],
     fundings_count: &mut usize,
+    known: &mut [u16],
     covers: &mut [u8],
 ) -> Verdict
     requires called { ⌜ Calls (now file) place (now table) count ⌝ }
     requires room { ⌜ length (now file) ≤ 3 * length (now table) ⌝ }
     requires listed { ⌜ Payouts (now file) place (now payouts) «payout_count» ⌝ }
     requires fundings { ⌜ Fundings (now file) (now fundings) (now «fundings_count») ⌝ }
+    requires right { ⌜ Right (now file) (now known) ⌝ }
     ensures answer { λ r. ⌜ r ≡ coded (spare (entryOf (now (file .entry)) place)) (backedVerdict (fields (now (file .entry))) (placedAt (now (file .entry)) place) (length (now (covers .entry)))) ⌝ }
     ensures covers { λ r. ⌜ now (covers .exit) ≡ written (backedVerdict (fields (now (file .entry))) (placedAt (now (file .entry)) place) (length (now (covers .entry)))) (now (covers .entry)) ⌝ }
     ensures fundings { λ r. ⌜ Fundings (now (file .entry)) (now (fundings .exit)) (now («fundings_count» .exit)) ⌝ }
+    ensures right { λ r. ⌜ Right (now (file .entry)) (now (known .exit)) ⌝ }
 {
     let mut backings = [0u16; 64];
     let debit_count = choose(file, table, count, false, &mut backings);
@@ -267,14 +275,14 @@ fn backed_verdict(
     }
     let listed = list_parameters(file, place, &mut backings, debit_count);
     let candidate_count = list_candidates(file, place, payouts, payout_count, table);
-    let known = list_if_asked(
+    let listed_count = list_if_asked(
         file,
         debit_count,
         candidate_count,
         fundings,
         *fundings_count,
     );
-    *fundings_count = known;
+    *fundings_count = listed_count;
     match_payouts(
         file,
         place,
@@ -286,29 +294,33 @@ fn backed_verdict(
         table,
         candidate_count,
         fundings,
+        listed_count,
         known,
         covers,
     )
 }
 
 // The verdict on the entry at a place of a file that passes question 1: question 10 and what comes behind it. The caller lends a
-// table with a number for each three bytes of the file, and one for the calls of the file that fund a map: they are the same
-// for all entries.
+// table with a number for each three bytes of the file, and two for what is the same for all entries: the calls of the file that
+// fund a map, and the tokens of its state fields.
 pub fn placed_verdict(
     file: &[u8],
     place: usize,
     table: &mut [u16],
     fundings: &mut [u16],
     fundings_count: &mut usize,
+    known: &mut [u16],
     covers: &mut [u8],
 ) -> Verdict
     requires short { ⌜ length (now file) ≤ 32768 ⌝ }
     requires inside { ⌜ place ≤ length (now file) ⌝ }
     requires room { ⌜ length (now file) ≤ 3 * length (now table) ⌝ }
     requires fundings { ⌜ Fundings (now file) (now fundings) (now «fundings_count») ⌝ }
+    requires right { ⌜ Right (now file) (now known) ⌝ }
     ensures answer { λ r. ⌜ r ≡ coded (spare (entryOf (now (file .entry)) place)) (placedVerdict (fields (now (file .entry))) (placedAt (now (file .entry)) place) (length (now (covers .entry)))) ⌝ }
     ensures covers { λ r. ⌜ now (covers .exit) ≡ written (placedVerdict (fields (now (file .entry))) (placedAt (now (file .entry)) place) (length (now (covers .entry)))) (now (covers .entry)) ⌝ }
     ensures fundings { λ r. ⌜ Fundings (now (file .entry)) (now (fundings .exit)) (now («fundings_count» .exit)) ⌝ }
+    ensures right { λ r. ⌜ Right (now (file .entry)) (now (known .exit)) ⌝ }
 {
     let count = list_body(file, place, CALL, table);
     let mut payouts = [0u16; 65];
@@ -328,6 +340,7 @@ pub fn placed_verdict(
         payout_count,
         fundings,
         fundings_count,
+        known,
         covers,
     )
 }
@@ -341,6 +354,7 @@ fn verdict_at(file: &[u8], place: usize, covers: &mut [u8]) -> Verdict
 {
     let mut fundings = [0u16; 1930];
     let mut fundings_count = NOT_LISTED;
+    let mut known = [0u16; 2979];
     if file.len() <= 6144 {
         let mut table = [0u16; 2048];
         return placed_verdict(
@@ -349,6 +363,7 @@ fn verdict_at(file: &[u8], place: usize, covers: &mut [u8]) -> Verdict
             &mut table,
             &mut fundings,
             &mut fundings_count,
+            &mut known,
             covers,
         );
     }
@@ -359,6 +374,7 @@ fn verdict_at(file: &[u8], place: usize, covers: &mut [u8]) -> Verdict
         &mut table,
         &mut fundings,
         &mut fundings_count,
+        &mut known,
         covers,
     )
 }

@@ -1,6 +1,6 @@
 -- A number below the count of debits is a debit's, and any other a parameter's.
 use borrow.Author.Needs.{needs}
-use Rattle.matching.proofs.Reading.{small-rest, debit-token, parameter-token}
+use Rattle.matching.proofs.Reading.{small-rest, entry-admits, file-admits, debit-token, parameter-token}
 use Rattle.matching.proofs.backing.backing_token.Statement.{statement}
 use Rattle.matching.proofs.backing.backing_token.Tie as tie
 
@@ -12,7 +12,7 @@ backing-token-spec =
     (λ c κs. search needs)  -- skip-requires
     (λ c κs. search needs)  -- receiver-requires
     (λ c κs. search needs)  -- funding-token-requires
-    (λ c. search debit-token)  -- returns
+    (λ c. (search debit-token, search needs))  -- returns
     (λ c κs. search needs)  -- skip-requires-2
-    (λ c κs. search small-rest)  -- admitted-inflow-token-requires
-    (λ c. search parameter-token))  -- returns-2
+    (λ c κs. (search small-rest, search entry-admits))  -- admitted-token-requires
+    (λ c. (search parameter-token, search file-admits)))  -- returns-2

@@ -10,4 +10,4 @@ tokens-conflict-spec =
     (λ c κs. search needs)  -- backing-token-requires
     (λ c κs. search needs)  -- payout-token-requires
     (λ c κs. search needs)  -- tokens-differ-requires
-    (λ c. cc))  -- returns
+    (λ c. (cc, search needs)))  -- returns

@@ -21,7 +21,7 @@ reserve-bounding-payout-spec =
     (λ c. searching-first _ _ _ _ _ _ _ _ (search needs) (search needs) (search needs) (search needs) _ (search needs) _ (c .before .before .skip .ensures) _ (c .before .contains-inflow .ensures) (search needs) (search needs) _ (search needs))  -- loop-holds
     (λ c. omega arith)  -- add-number-at
     (λ c κs. search needs)  -- number-at-requires
-    (λ c κs. (search needs, (search needs, (search needs, search needs))))  -- holds-token-requires
+    (λ c κs. (search needs, (search needs, search needs)))  -- holds-token-requires
     (λ c. omega arith)  -- same-length
     (λ c. (search searching-found, search needs))  -- returns-3
     (λ c. search (two-fit, needs))  -- add-first-equal

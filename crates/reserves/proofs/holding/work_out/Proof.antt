@@ -1,4 +1,4 @@
--- The number that is written is right of the field's token, and the others are as they were.
+-- The number that is written is that of the field's token, and the others are as they were.
 use borrow.Author.Needs.{needs}
 use Rattle.reserves.proofs.Remembering.{worked-out, still-right}
 use Rattle.reserves.proofs.holding.work_out.Statement.{statement}
@@ -9,10 +9,7 @@ work-out-spec =
     tie.close
     (tie.spec
     (λ c κs. search needs)  -- state-name-requires
-    (λ c κs. search needs)  -- reserve-token-requires
-    (λ c κs. search needs)  -- number-for-requires
+    (λ c κs. search needs)  -- reserve-number-requires
     (λ c κs. search needs)  -- remember-requires
-    (λ c κs. search needs)  -- asked-token-requires
-    (λ c κs. search needs)  -- is-token-requires
     (λ c. search needs)  -- same-length
     (λ c. (search worked-out, search still-right)))  -- returns

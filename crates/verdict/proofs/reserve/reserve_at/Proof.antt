@@ -25,5 +25,5 @@ reserve-at-spec =
     (λ c. search needs)  -- slice-aggregate-reserve-bounding-payout-2
     (λ c. search needs)  -- slice-aggregate-reserve-bounding-payout-3
     (λ c. search needs)  -- slice-aggregate-reserve-bounding-payout-4
-    (λ c κs. (search needs, (search fundings-unlisted, (search needs, (candidates-listed _ _ _ _ (payouts-fit _ (c .before .before .before .before .before .before .before .before .before .before .before .before .before .before .before .before .before .pre .0) _ (c .before .before .before .before .before .before .before .before .before .before .before .before .before .before .before .before .before .pre .1) _ _ _ (c .before .before .before .before .before .before .before .before .before .before .before .before .before .before .list-body .ensures) (search needs) (search needs) _ _ (search needs) _ (c .before .before .before .before .before .before .before .before .before .before .choose .ensures)) _ _ _ (c .before .before .before .before .before .list-candidates .ensures) (omega (arith, c .before .before .before .before .before .before .before .before .before .before .before .before .before .before .before .before .before .pre .0)), zeros-right _ _ _ 2979)))))  -- reserve-bounding-payout-requires
+    (λ c κs. (search needs, (search fundings-unlisted, (search needs, (candidates-listed _ _ _ _ (payouts-fit _ (c .before .before .before .before .before .before .before .before .before .before .before .before .before .before .before .before .before .pre .0) _ (c .before .before .before .before .before .before .before .before .before .before .before .before .before .before .before .before .before .pre .1) _ _ _ (c .before .before .before .before .before .before .before .before .before .before .before .before .before .before .list-body .ensures) (search needs) (search needs) _ _ (search needs) _ (c .before .before .before .before .before .before .before .before .before .before .choose .ensures)) _ _ _ (c .before .before .before .before .before .list-candidates .ensures) (omega (arith, c .before .before .before .before .before .before .before .before .before .before .before .before .before .before .before .before .before .pre .0)), zeros-right _ 2979)))))  -- reserve-bounding-payout-requires
     (λ c. payout-found _ (c .before .before .before .before .before .before .before .before .before .before .before .before .before .before .before .before .before .before .before .pre .0) _ (c .before .before .before .before .before .before .before .before .before .before .before .before .before .before .before .before .before .before .before .pre .1) _ _ _ (c .before .before .before .before .before .before .before .before .before .before .before .before .before .before .before .before .list-body .ensures) (search needs) (search needs) _ _ (search needs) _ (c .before .before .before .before .before .before .before .before .before .before .before .before .choose .ensures) _ (search needs) _ (search needs)))  -- returns-2
