@@ -35,7 +35,7 @@ use Rattle.reserves.specs.declared.covering.Reserve.the-variants.{Covers
 
 -- Equal amounts are lowered by the same assignments
 
-equal-same : (x a b : Field) → exprEq a b ≡ true → exprEq x a ≡ exprEq x b
+pub equal-same : (x a b : Field) → exprEq a b ≡ true → exprEq x a ≡ exprEq x b
 equal-same x a b e = go (exprEq x a) (exprEq x b) refl refl
   where
     go : (i j : Bool) → exprEq x a ≡ i → exprEq x b ≡ j → exprEq x a ≡ exprEq x b

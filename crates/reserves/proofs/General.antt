@@ -39,6 +39,16 @@ module _ {A : Type 0} where
   any-same p q f [] = refl
   any-same p q f (x ∷ l) = rw (f x, any-same p q f l)
 
+  -- some element that passes one test passes another
+  pub any-filter : (p q : A → Bool) (l : List A) → any p (filter q l) ≡ any (λ x. q x && p x) l
+  unfolding any filter
+  any-filter p q [] = refl
+  any-filter p q (x ∷ l) = go (q x) (any-filter p q l)
+    where
+      go : (k : Bool) → any p (filter q l) ≡ any (λ x. q x && p x) l → any p (cond k (x ∷ filter q l) (filter q l)) ≡ k && p x || any (λ x. q x && p x) l
+      go true e = rw e
+      go false e = e
+
   -- one of the first
   pub any-left : (p : A → Bool) (l m : List A) → any p l ≡ true → any p (l ++ m) ≡ true
   unfolding any

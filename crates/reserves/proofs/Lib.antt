@@ -5,5 +5,6 @@ pub mod Pairs
 pub mod Remembering
 pub mod Counting
 pub mod Covered
+pub mod Lowerings
 pub mod Searching
 pub mod Examples

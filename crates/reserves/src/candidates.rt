@@ -4,8 +4,8 @@
 use super::guarded::guarded_amount;
 use super::guarded::guarded_field;
 use super::lowering::is_lowered;
-use super::payout::asked_amount;
-use equality::expr_eq;
+use super::lowering::list_lowerings;
+use super::payout::is_asked;
 use fields::bytes::same_bytes;
 use fields::bytes::skip;
 use fields::front::after_front;
@@ -22,13 +22,12 @@ use tags::GUARD;
 use tags::STATE;
 ghost use mathlib.Core.Path.{_≡_};
 ghost use Prim.Native.Nat.{_≤_};
-ghost use lib.ListN.{length};
-ghost use Rattle.fields.specs.Lists.{any};
+ghost use lib.ListN.{length, drop};
 ghost use Rattle.fields.specs.Field.{fields, front};
 ghost use Rattle.fields.specs.Table.{Listed, Room};
 ghost use Rattle.walking.specs.Table.{placedAt};
-ghost use Rattle.equality.specs.Equality.{exprEq};
 ghost use Rattle.reserves.specs.Asked.{askedAmounts};
+ghost use Rattle.reserves.specs.Lowerings.{LoweringsOf};
 ghost use Rattle.reserves.specs.Candidates.{counts, stateIndex, numbersAt, candidateNumbers};
 
 // The number of the first state field of that name, counted from 0; how many there are where none has it.
@@ -48,25 +47,19 @@ pub fn state_index(file: &[u8], name: &[u8]) -> usize
     n
 }
 
-// Whether one of the payouts asks for the amount.
-fn is_asked(file: &[u8], asked: &[u16], count: usize, amount: &[u8]) -> bool
-    requires { ⌜ count ≤ length (now asked) ⌝ }
-    ensures { λ r. ⌜ r ≡ any (exprEq (front (now (amount .entry)))) (askedAmounts (now (file .entry)) (now (asked .entry)) count) ⌝ }
-{
-    let mut i = 0;
-    while i < count {
-        if expr_eq(amount, asked_amount(file, asked, i)) {
-            return true;
-        }
-        i += 1;
-    }
-    false
-}
-
 // Whether the guard's expression at the front of s counts. Most guards bound no payout's amount, and payouts are few, so they
-// are asked first; the statements of an entry are fewer than the fields of a file.
-fn guard_counts(file: &[u8], asked: &[u16], count: usize, entry: &[u8], s: &[u8]) -> bool
-    requires { ⌜ count ≤ length (now asked) ⌝ }
+// are asked first. An amount that is asked for is lowered only by the lowerings that a table has.
+fn guard_counts(
+    file: &[u8],
+    asked: &[u16],
+    count: usize,
+    entry: &[u8],
+    lowerings: &[u16],
+    lowering_count: usize,
+    s: &[u8],
+) -> bool
+    requires asked { ⌜ count ≤ length (now asked) ⌝ }
+    requires lowerings { ⌜ LoweringsOf (askedAmounts (now file) (now asked) count) (now entry) (now lowerings) «lowering_count» ⌝ }
     ensures { λ r. ⌜ r ≡ counts (fields (now (file .entry))) (askedAmounts (now (file .entry)) (now (asked .entry)) count) (front (now (entry .entry))) (front (now (s .entry))) ⌝ }
 {
     let amount = guarded_amount(s);
@@ -74,7 +67,7 @@ fn guard_counts(file: &[u8], asked: &[u16], count: usize, entry: &[u8], s: &[u8]
         return false;
     }
     let name = guarded_field(s);
-    if !is_lowered(entry, amount, name) {
+    if !is_lowered(entry, lowerings, lowering_count, amount, name) {
         return false;
     }
     has_state(file, name)
@@ -87,12 +80,15 @@ fn note_candidate(
     asked: &[u16],
     count: usize,
     entry: &[u8],
+    lowerings: &[u16],
+    lowering_count: usize,
     s: &[u8],
     at: usize,
     table: &mut [u16],
     n: usize,
 ) -> usize
     requires asked { ⌜ count ≤ length (now asked) ⌝ }
+    requires lowerings { ⌜ LoweringsOf (askedAmounts (now file) (now asked) count) (now entry) (now lowerings) «lowering_count» ⌝ }
     requires room { ⌜ Room (now s) at n ⌝ }
     ensures { λ r. ⌜ Listed (numbersAt (fields (now (file .entry))) (askedAmounts (now (file .entry)) (now (asked .entry)) count) (front (now (entry .entry))) (record { place = at; this = front (now (s .entry)) })) (now (table .entry)) n (now (table .exit)) r ⌝ }
 {
@@ -100,7 +96,7 @@ fn note_candidate(
         return n;
     }
     let guard = part_of(s, 0);
-    if !guard_counts(file, asked, count, entry, guard) {
+    if !guard_counts(file, asked, count, entry, lowerings, lowering_count, guard) {
         return n;
     }
     let m = note(true, at % 65536, table, n);
@@ -113,15 +109,18 @@ fn note_candidate(
 }
 
 // Lists the guards that count in the body of the entry at a place of the file, as far as the table has room, and answers how
-// many numbers that takes: of each the place, and the number of its state field.
-pub fn list_candidates(
+// many numbers that takes: of each the place, and the number of its state field. Another table has the entry's lowerings.
+fn list_guards(
     file: &[u8],
     place: usize,
     asked: &[u16],
     count: usize,
+    lowerings: &[u16],
+    lowering_count: usize,
     table: &mut [u16],
 ) -> usize
-    requires { ⌜ count ≤ length (now asked) ⌝ }
+    requires asked { ⌜ count ≤ length (now asked) ⌝ }
+    requires lowerings { ⌜ LoweringsOf (askedAmounts (now file) (now asked) count) (drop place (now file)) (now lowerings) «lowering_count» ⌝ }
     ensures { λ r. ⌜ Listed (candidateNumbers (fields (now (file .entry))) (askedAmounts (now (file .entry)) (now (asked .entry)) count) (placedAt (now (file .entry)) place)) (now (table .entry)) 0 (now (table .exit)) r ⌝ }
 {
     let entry = skip(file, place);
@@ -132,10 +131,62 @@ pub fn list_candidates(
     let mut at = place + 3;
     let mut n = 0;
     while is_whole(t) {
-        n = note_candidate(file, asked, count, entry, t, at, table, n);
+        n = note_candidate(
+            file,
+            asked,
+            count,
+            entry,
+            lowerings,
+            lowering_count,
+            t,
+            at,
+            table,
+            n,
+        );
         at += 3 + length_of(t);
         let u = after_front(t);
         t = u;
     }
     n
+}
+
+// The same with a table that has room for the lowerings of every entry.
+fn list_guards_of_many(
+    file: &[u8],
+    place: usize,
+    asked: &[u16],
+    count: usize,
+    table: &mut [u16],
+) -> usize
+    requires { ⌜ count ≤ length (now asked) ⌝ }
+    ensures { λ r. ⌜ Listed (candidateNumbers (fields (now (file .entry))) (askedAmounts (now (file .entry)) (now (asked .entry)) count) (placedAt (now (file .entry)) place)) (now (table .entry)) 0 (now (table .exit)) r ⌝ }
+{
+    let mut lowerings = [0u16; 7281];
+    let entry = skip(file, place);
+    let lowering_count = list_lowerings(file, asked, count, entry, &mut lowerings);
+    list_guards(file, place, asked, count, &lowerings, lowering_count, table)
+}
+
+// The same with the lowerings yet to be listed. Most entries have none, and then no guard counts. Almost all have few, so a
+// small table is tried first, which takes less time to clear.
+pub fn list_candidates(
+    file: &[u8],
+    place: usize,
+    asked: &[u16],
+    count: usize,
+    table: &mut [u16],
+) -> usize
+    requires { ⌜ count ≤ length (now asked) ⌝ }
+    ensures { λ r. ⌜ Listed (candidateNumbers (fields (now (file .entry))) (askedAmounts (now (file .entry)) (now (asked .entry)) count) (placedAt (now (file .entry)) place)) (now (table .entry)) 0 (now (table .exit)) r ⌝ }
+{
+    let mut lowerings = [0u16; 256];
+    let entry = skip(file, place);
+    let lowering_count = list_lowerings(file, asked, count, entry, &mut lowerings);
+    if lowering_count == 0 {
+        return 0;
+    }
+    if 256 < lowering_count {
+        return list_guards_of_many(file, place, asked, count, table);
+    }
+    list_guards(file, place, asked, count, &lowerings, lowering_count, table)
 }

@@ -1,5 +1,6 @@
 // SPDX-License-Identifier: Apache-2.0 OR MIT
 // A payout's token and amount. The payouts that ask for a state field stand in the file at the places of a table.
+use equality::expr_eq;
 use fields::bytes::same_bytes;
 use fields::bytes::skip;
 use fields::front::part_of;
@@ -10,9 +11,11 @@ use walking::shape::method;
 ghost use mathlib.Core.Path.{_≡_};
 ghost use Prim.Native.Nat.{_≤_};
 ghost use lib.ListN.{length};
+ghost use Rattle.fields.specs.Lists.{any};
 ghost use Rattle.fields.specs.Field.{front};
+ghost use Rattle.equality.specs.Equality.{exprEq};
 ghost use Rattle.reserves.specs.Payouts.{payoutToken, payoutAmount};
-ghost use Rattle.reserves.specs.Asked.{askedToken, askedAmount};
+ghost use Rattle.reserves.specs.Asked.{askedToken, askedAmount, askedAmounts};
 
 // The token of the payout at the front of s: its first argument, peeled, if an identifier.
 pub fn payout_token(s: &[u8]) -> &[u8]
@@ -47,4 +50,19 @@ pub fn asked_amount<'a>(file: &'a [u8], asked: &[u16], k: usize) -> &'a [u8]
     ensures within { λ r. ⌜ length (now r) ≤ length (now (file .entry)) ⌝ }
 {
     peel(payout_amount(skip(file, number_at(asked, k))))
+}
+
+// Whether one of the payouts asks for the amount.
+pub fn is_asked(file: &[u8], asked: &[u16], count: usize, amount: &[u8]) -> bool
+    requires { ⌜ count ≤ length (now asked) ⌝ }
+    ensures { λ r. ⌜ r ≡ any (exprEq (front (now (amount .entry)))) (askedAmounts (now (file .entry)) (now (asked .entry)) count) ⌝ }
+{
+    let mut i = 0;
+    while i < count {
+        if expr_eq(amount, asked_amount(file, asked, i)) {
+            return true;
+        }
+        i += 1;
+    }
+    false
 }

@@ -1,6 +1,7 @@
--- The three tests, of which the first that fails decides.
+-- The three tests, of which the first that fails decides. Where the amount is asked for, the lowerings of the entry decide the
+-- second.
 use Prim.Native.Nat.{ℕ}
-use mathlib.Core.Path.{_≡_, _∙_}
+use mathlib.Core.Path.{_≡_, sym, _∙_}
 use mathlib.Core.Bool.{Bool, true, false, not}
 use mathlib.Core.List.{List}
 use borrow.Author.Needs.{needs}
@@ -11,22 +12,29 @@ use Rattle.questions.specs.Model.{stateNames, body}
 use Rattle.equality.specs.Equality.{exprEq}
 use Rattle.reserves.specs.Reserves.{guardedField, guardedAmount, lowers}
 use Rattle.reserves.specs.Candidates.{counts}
+use Rattle.reserves.specs.Lowerings.{mayLower, fieldsAt, LoweringsOf}
+use Rattle.reserves.proofs.Lowerings.{lowerings-decide}
 use Rattle.reserves.proofs.candidates.guard_counts.Statement.{statement}
 use Rattle.reserves.proofs.candidates.guard_counts.Tie as tie
 
-module _ (model : Fields) (amounts : List Field) (entry g : Field) (x : List ℕ) (i : front x ≡ guardedAmount g) (a : Bool) (d : a ≡ any (exprEq (front x)) amounts) where
-  not-asked : not a ≡ true → false ≡ counts model amounts entry g
+module _ (model : Fields) (amounts : List Field) (entry : List ℕ) (g : Field) (x : List ℕ) (i : front x ≡ guardedAmount g)
+    (a : Bool) (d : a ≡ any (exprEq (front x)) amounts) where
+  not-asked : not a ≡ true → false ≡ counts model amounts (front entry) g
   unfolding counts
   not-asked h = rw (← i, ← d, not-true a h)
 
-  module _ (h : not a ≡ false) (n : List ℕ) (e : n ≡ guardedField g) (b : Bool) (f : b ≡ any (lowers (front x) n) (body entry)) where
-    not-lowered : not b ≡ true → false ≡ counts model amounts entry g
-    unfolding counts
-    not-lowered k = rw (← i, ← d, ← e, ← f, not-false a h, not-true b k)
+  module _ (h : not a ≡ false) (n : List ℕ) (e : n ≡ guardedField g) (table : List ℕ) (count : ℕ) (l : LoweringsOf amounts entry table count)
+      (b : Bool) (f : b ≡ any (mayLower (front x) n) (fieldsAt entry table count)) where
+    lowered : b ≡ any (lowers (front x) n) (body (front entry))
+    lowered = f ∙ rw (l .read) (lowerings-decide amounts (front x) (sym d ∙ not-false a h) n (front entry))
 
-    by-state : not b ≡ false → (r : Bool) → r ≡ any (sameBytes n) (stateNames model) → r ≡ counts model amounts entry g
+    not-lowered : not b ≡ true → false ≡ counts model amounts (front entry) g
     unfolding counts
-    by-state k r l = l ∙ rw (← i, ← d, ← e, ← f, not-false a h, not-false b k)
+    not-lowered k = rw (← i, ← d, ← e, ← lowered, not-false a h, not-true b k)
+
+    by-state : not b ≡ false → (r : Bool) → r ≡ any (sameBytes n) (stateNames model) → r ≡ counts model amounts (front entry) g
+    unfolding counts
+    by-state k r m = m ∙ rw (← i, ← d, ← e, ← lowered, not-false a h, not-false b k)
 
 pub guard-counts-spec : {M : Type 1} → statement M
 guard-counts-spec =

@@ -12,8 +12,8 @@ use Rattle.fields.proofs.Seeking.{Seeking, seeking-all, seeking-none, seeking-f
 use Rattle.equality.specs.Equality.{exprEq}
 use Rattle.tokens.proofs.Funded.{any-mapped}
 use Rattle.reserves.specs.Asked.{paidAt, askedAmount, askedAmounts}
-use Rattle.reserves.proofs.candidates.is_asked.Statement.{statement}
-use Rattle.reserves.proofs.candidates.is_asked.Tie as tie
+use Rattle.reserves.proofs.payout.is_asked.Statement.{statement}
+use Rattle.reserves.proofs.payout.is_asked.Tie as tie
 
 unfoldable asks : List ℕ → Field → ℕ → Bool
 asks file amount n = exprEq amount (paidAt file n)
