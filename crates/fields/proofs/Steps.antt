@@ -50,6 +50,48 @@ module _ (s x : List ℕ) (at : ℕ) (e : x ≡ drop at s) where
   pub text-cut : (n : ℕ) → length x < n → text.Cut ≡ textAt s at n
   text-cut n h = rw (← e, lt-leb n (length x) h)
 
+-- an answer tells the tests that decided it, whether all is there and whether anything is, and what was found
+found-head : (j k : Bool) (t u l m : ℕ) (n o : Cursor) → head.Found t l n ≡ cond j (head.Found u m o) (cond k head.Cut head.End) →
+    (j ≡ true) × (t ≡ u) × (l ≡ m) × (n ≡ o)
+found-head true k t u l m n o e = (refl, (cc), (cc), (cc))
+found-head false true t u l m n o e = ((cc), (cc), (cc), (cc))
+found-head false false t u l m n o e = ((cc), (cc), (cc), (cc))
+
+cut-head : (j k : Bool) (u m : ℕ) (o : Cursor) → head.Cut ≡ cond j (head.Found u m o) (cond k head.Cut head.End) → (j ≡ false) × (k ≡ true)
+cut-head true k u m o e = ((cc), (cc))
+cut-head false true u m o e = (refl, refl)
+cut-head false false u m o e = (refl, (cc))
+
+end-head : (j k : Bool) (u m : ℕ) (o : Cursor) → head.End ≡ cond j (head.Found u m o) (cond k head.Cut head.End) → (j ≡ false) × (k ≡ false)
+end-head true k u m o e = ((cc), (cc))
+end-head false true u m o e = (refl, (cc))
+end-head false false u m o e = (refl, refl)
+
+found-text : (j k : Bool) (t a x b y : ℕ) (m o : Cursor) → text.Found a b m ≡ cond j (text.Found x y o) text.Cut →
+    part.Found t a b m ≡ cond j (part.Found t x y o) (cond k part.Cut part.End)
+found-text true k t a x b y m o e = cc
+found-text false k t a x b y m o e = cc
+
+cut-text : (j : Bool) (x y : ℕ) (o : Cursor) → text.Cut ≡ cond j (text.Found x y o) text.Cut → j ≡ false
+cut-text true x y o e = cc
+cut-text false x y o e = refl
+
+found-part : (j k : Bool) (t u a x b y : ℕ) (n o : Cursor) → part.Found t a b n ≡ cond j (part.Found u x y o) (cond k part.Cut part.End) →
+    (j ≡ true) × (t ≡ u) × (a ≡ x) × (b ≡ y) × (n ≡ o)
+found-part true k t u a x b y n o e = (refl, (cc), (cc), (cc), (cc))
+found-part false true t u a x b y n o e = ((cc), (cc), (cc), (cc), (cc))
+found-part false false t u a x b y n o e = ((cc), (cc), (cc), (cc), (cc))
+
+cut-part : (j k : Bool) (u x y : ℕ) (o : Cursor) → part.Cut ≡ cond j (part.Found u x y o) (cond k part.Cut part.End) → (j ≡ false) × (k ≡ true)
+cut-part true k u x y o e = ((cc), (cc))
+cut-part false true u x y o e = (refl, refl)
+cut-part false false u x y o e = (refl, (cc))
+
+end-part : (j k : Bool) (u x y : ℕ) (o : Cursor) → part.End ≡ cond j (part.Found u x y o) (cond k part.Cut part.End) → k ≡ false
+end-part true k u x y o e = cc
+end-part false true u x y o e = cc
+end-part false false u x y o e = refl
+
 -- a head and the text of its length are a whole field, and a whole field is both
 module _ (s : List ℕ) (at : ℕ) where
   text-left : leb 3 (length (drop at s)) ≡ true → leb (lengthOf (drop at s)) (length (drop (at + 3) s)) ≡ whole (drop at s)
@@ -62,50 +104,28 @@ module _ (s : List ℕ) (at : ℕ) where
   no-head h = lt-leb (3 + lengthOf (drop at s)) (length (drop at s)) (omega (arith, leb-false 3 (length (drop at s)) h))
 
   head-is : (r : Head) → r ≡ headAt s at → (t l : ℕ) (n : Cursor) → r ≡ head.Found t l n →
-      (leb 3 (length (drop at s)) ≡ true) × (t ≡ tagOf (drop at s)) × (l ≡ lengthOf (drop at s)) × (n .at ≡ at + 3)
-  head-is r e t l n f = go (leb 3 (length (drop at s))) (leb 1 (length (drop at s))) refl refl
-    where
-      go : (j k : Bool) → leb 3 (length (drop at s)) ≡ j → leb 1 (length (drop at s)) ≡ k →
-          (leb 3 (length (drop at s)) ≡ true) × (t ≡ tagOf (drop at s)) × (l ≡ lengthOf (drop at s)) × (n .at ≡ at + 3)
-      go true k h i = ((cc), (cc), (cc), (cc))
-      go false true h i = ((cc), (cc), (cc), (cc))
-      go false false h i = ((cc), (cc), (cc), (cc))
+      (leb 3 (length (drop at s)) ≡ true) × (t ≡ tagOf (drop at s)) × (l ≡ lengthOf (drop at s)) × (n ≡ cursorAt (at + 3))
+  head-is r e t l n f = found-head (leb 3 (length (drop at s))) (leb 1 (length (drop at s))) t _ l _ n _ (sym f ∙ e)
 
   -- the answers of `part`, by those of `head` and `text`
   module _ (r : Head) (e : r ≡ headAt s at) where
     module _ (t l : ℕ) (n : Cursor) (f : r ≡ head.Found t l n) (q : Text) (g : q ≡ textAt s (n .at) l) where
-      by-whole : q ≡ cond (whole (drop at s)) (text.Found (at + 3) (at + 3 + l) (cursorAt (at + 3 + l))) text.Cut
+      by-whole : q ≡ cond (whole (drop at s)) (text.Found (at + 3) (at + 3 + lengthOf (drop at s)) (cursorAt (at + 3 + lengthOf (drop at s)))) text.Cut
       by-whole = let (h, x, y, z) = head-is r e t l n f in g ∙ rw (z, y, text-left h)
 
       pub part-found : (a b : ℕ) (m : Cursor) → q ≡ text.Found a b m → part.Found t a b m ≡ partAt s at
-      part-found a b m h = let (i, x, y, z) = head-is r e t l n f in go (whole (drop at s)) refl x y
-        where
-          go : (w : Bool) → whole (drop at s) ≡ w → t ≡ tagOf (drop at s) → l ≡ lengthOf (drop at s) → part.Found t a b m ≡ partAt s at
-          go true w x y = cc by-whole
-          go false w x y = cc by-whole
+      part-found a b m h = rw (head-is r e t l n f .1) (found-text (whole (drop at s)) (leb 1 (length (drop at s))) _ a _ b _ m _ (sym h ∙ by-whole))
 
       pub part-cut : q ≡ text.Cut → part.Cut ≡ partAt s at
-      part-cut h = go (whole (drop at s)) refl (head-is r e t l n f .0)
-        where
-          go : (w : Bool) → whole (drop at s) ≡ w → leb 3 (length (drop at s)) ≡ true → part.Cut ≡ partAt s at
-          go true w i = cc by-whole
-          go false w i = rw (w, le-leb 1 (length (drop at s)) (omega (arith, leb-true 3 (length (drop at s)) i)))
+      part-cut h =
+          let i = leb-true 3 (length (drop at s)) (head-is r e t l n f .0) in
+          rw (cut-text (whole (drop at s)) _ _ _ (sym h ∙ by-whole), le-leb 1 (length (drop at s)) (omega arith))
 
     pub part-cut-head : r ≡ head.Cut → part.Cut ≡ partAt s at
-    part-cut-head f = go (leb 3 (length (drop at s))) (leb 1 (length (drop at s))) refl refl
-      where
-        go : (j k : Bool) → leb 3 (length (drop at s)) ≡ j → leb 1 (length (drop at s)) ≡ k → part.Cut ≡ partAt s at
-        go true k h i = cc
-        go false true h i = cc (no-head h)
-        go false false h i = cc
+    part-cut-head f = let (h, i) = cut-head (leb 3 (length (drop at s))) (leb 1 (length (drop at s))) _ _ _ (sym f ∙ e) in rw (no-head h, i)
 
     pub part-end : r ≡ head.End → part.End ≡ partAt s at
-    part-end f = go (leb 3 (length (drop at s))) (leb 1 (length (drop at s))) refl refl
-      where
-        go : (j k : Bool) → leb 3 (length (drop at s)) ≡ j → leb 1 (length (drop at s)) ≡ k → part.End ≡ partAt s at
-        go true k h i = cc
-        go false true h i = cc
-        go false false h i = cc (no-head h)
+    part-end f = let (h, i) = end-head (leb 3 (length (drop at s))) (leb 1 (length (drop at s))) _ _ _ (sym f ∙ e) in rw (no-head h, i)
 
 -- What a part that was found says of the bytes from its place on: with t for them, `whole t`, its tag, its content and
 -- `after t`
@@ -122,13 +142,9 @@ pub record PartFound (s : List ℕ) (at t start stop : ℕ) (n : Cursor) : Type 
 module _ (s : List ℕ) (at : ℕ) (r : Part) (e : r ≡ partAt s at) where
   module _ (t a b : ℕ) (n : Cursor) (f : r ≡ part.Found t a b n) where
     read-is : (whole (drop at s) ≡ true) × (t ≡ tagOf (drop at s)) × (a ≡ at + 3) × (b ≡ at + 3 + lengthOf (drop at s)) × (n .at ≡ b)
-    read-is = go (whole (drop at s)) (leb 1 (length (drop at s))) refl refl
-      where
-        go : (j k : Bool) → whole (drop at s) ≡ j → leb 1 (length (drop at s)) ≡ k →
-            (whole (drop at s) ≡ true) × (t ≡ tagOf (drop at s)) × (a ≡ at + 3) × (b ≡ at + 3 + lengthOf (drop at s)) × (n .at ≡ b)
-        go true k h i = ((cc), (cc), (cc), (cc), (cc))
-        go false true h i = ((cc), (cc), (cc), (cc), (cc))
-        go false false h i = ((cc), (cc), (cc), (cc), (cc))
+    read-is =
+        let (w, x, y, z, m) = found-part (whole (drop at s)) (leb 1 (length (drop at s))) t _ a _ b _ n _ (sym f ∙ e) in
+        (w, x, y, z, rw (m, z))
 
     pub part-is : PartFound s at t a b n
     part-is =
@@ -149,18 +165,10 @@ module _ (s : List ℕ) (at : ℕ) (r : Part) (e : r ≡ partAt s at) where
 
   -- something is left at the place, and no whole field
   pub cut-is : r ≡ part.Cut → (whole (drop at s) ≡ false) × (leb 1 (length (drop at s)) ≡ true)
-  cut-is f = go (whole (drop at s)) (leb 1 (length (drop at s))) refl refl
-    where
-      go : (j k : Bool) → whole (drop at s) ≡ j → leb 1 (length (drop at s)) ≡ k → (whole (drop at s) ≡ false) × (leb 1 (length (drop at s)) ≡ true)
-      go true k h i = ((cc), (cc))
-      go false true h i = (h, i)
-      go false false h i = ((cc), (cc))
+  cut-is f = cut-part (whole (drop at s)) (leb 1 (length (drop at s))) _ _ _ _ (sym f ∙ e)
 
   -- nothing is left
   pub end-is : r ≡ part.End → drop at s ≡ []
-  end-is f = go (whole (drop at s)) (leb 1 (length (drop at s))) refl refl
-    where
-      go : (j k : Bool) → whole (drop at s) ≡ j → leb 1 (length (drop at s)) ≡ k → drop at s ≡ []
-      go true k h i = cc
-      go false true h i = cc
-      go false false h i = no-bytes (drop at s) (omega (arith, leb-false 1 (length (drop at s)) i))
+  end-is f =
+      let l = leb-false 1 (length (drop at s)) (end-part (whole (drop at s)) (leb 1 (length (drop at s))) _ _ _ _ (sym f ∙ e)) in
+      no-bytes (drop at s) (omega arith)
