@@ -1,10 +1,27 @@
-use Rattle.questions.specs.Grammar.{inClass}
+-- Class by class, as the definition asks.
+use mathlib.Core.Path.{_≡_}
+use mathlib.Core.Bool.{Bool, _&&_, _||_}
+use Prim.Native.Nat.{ℕ}
 use borrow.Author.Needs.{needs}
-use Rattle.questions.proofs.grammar.in_class.Statement.{statement}
+use lib.Dec.{eqb}
+use Rattle.tags.specs.Tag.{Name, TypeName, Parameter, isItem, isClause, isStatement, isExpression}
+use Rattle.questions.specs.Grammar.{name, typeName, item, parameter, clause, statement, expression, inClass}
+use Rattle.questions.proofs.grammar.in_class.Statement as of
 use Rattle.questions.proofs.grammar.in_class.Tie as tie
 
-pub in-class-spec : {M : Type 1} → statement M
+class-read : (c t : ℕ) (i l m e : Bool) → i ≡ isItem t → l ≡ isClause t → m ≡ isStatement t → e ≡ isExpression t →
+    eqb c name && eqb t Name
+    || eqb c typeName && eqb t TypeName
+    || eqb c item && i
+    || eqb c parameter && eqb t Parameter
+    || eqb c clause && l
+    || eqb c statement && m
+    || eqb c expression && e
+    ≡ inClass c t
 unfolding inClass
+class-read c t i l m e p q r s = rw (p, q, r, s)
+
+pub in-class-spec : {M : Type 1} → of.statement M
 in-class-spec =
     tie.close
     (tie.spec
@@ -12,4 +29,4 @@ in-class-spec =
     (λ c κs. search needs)  -- is-clause-requires
     (λ c κs. search needs)  -- is-statement-requires
     (λ c κs. search needs)  -- is-expression-requires
-    (λ c. cc))  -- returns
+    (λ c. search class-read))  -- returns
