@@ -19,7 +19,7 @@ use Rattle.fields.proofs.Lists.{Every, every-filter}
 use Rattle.fields.proofs.Inside.{Stands}
 use Rattle.fields.proofs.Places.{tree-size}
 use Rattle.questions.specs.Model.{states, entries, nameOf}
-use Rattle.questions.specs.Grammar.{slotsOf, advance, complete}
+use Rattle.grammar.specs.Grammar.{slotsOf, advance, complete}
 use Rattle.questions.specs.Questions.{Asked, passes, fails, ask, _andThen_, contentAllowed, depthInside, askField, askFields, askNames, atMost, askForm, askFile}
 use Rattle.walking.specs.Walking.{bodyExprs, isPayout, payouts}
 use Rattle.walking.specs.Table.{placedAt, placesOf}

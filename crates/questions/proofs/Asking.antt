@@ -22,15 +22,15 @@ use Rattle.fields.proofs.Places.{front-size, content-length}
 use Rattle.fields.proofs.Parts.{tag-front}
 use Rattle.fields.proofs.Steps.{PartFound, part-is, cut-is, end-is}
 use Rattle.tags.proofs.Below.{holdsBelow, implies, implied}
-use Rattle.questions.specs.Grammar.{grammar, slotsIn, slotsOf, advance, complete}
-use Rattle.questions.specs.Slots.{slotList, leftBy}
+use Rattle.grammar.specs.Grammar.{grammar, slotsIn, slotsOf, advance, complete}
+use Rattle.grammar.specs.Slots.{slotList, leftBy}
 use Rattle.questions.specs.Questions.{Asked, _andThen_, ask, contentAllowed, depthInside, askField, askFields}
 use Rattle.questions.specs.Questions.Asked.{passes, fails}
 use Rattle.questions.specs.Answers.{asked}
 use Rattle.questions.specs.Room.{Room}
-use Rattle.questions.specs.declared.grammar.Slots.{Slots}
-use Rattle.questions.specs.declared.grammar.Advanced.{Advanced}
-use Rattle.questions.specs.declared.grammar.Advanced.the-variants as advanced
+use Rattle.grammar.specs.declared.Slots.{Slots}
+use Rattle.grammar.specs.declared.Advanced.{Advanced}
+use Rattle.grammar.specs.declared.Advanced.the-variants as advanced
 use Rattle.questions.specs.declared.check.Answer.{Answer}
 use Rattle.questions.specs.declared.check.Answer.the-variants as answer
 

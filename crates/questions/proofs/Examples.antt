@@ -8,7 +8,7 @@ use Rattle.tags.specs.Tag.{State, Genesis, Entry, Parameter, Limits, Denies, Gu
 use Rattle.fields.specs.Field.{fields, fieldsTo, nth, row, fieldsFrom, size, sizes, placed, placedFrom}
 use Rattle.fields.proofs.Writing.{write, word, name, typeName, integer, identifier, times, nots}
 use Rattle.questions.specs.Model.{states, entries}
-use Rattle.questions.specs.Grammar.{inClass, grammar, slotsIn, advance, complete}
+use Rattle.grammar.specs.Grammar.{inClass, grammar, slotsIn, advance, complete}
 use Rattle.questions.specs.Questions.{Asked, contentAllowed, askField, askFields, askNames, atMost, askForm, askFile}
 use Rattle.questions.specs.Questions.Asked.{passes, fails}
 

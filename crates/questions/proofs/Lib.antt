@@ -1,5 +1,3 @@
-pub mod Rows
-pub mod Left
 pub mod Asking
 pub mod Noting
 pub mod Naming

@@ -1,6 +1,4 @@
 pub mod Model
-pub mod Grammar
-pub mod Slots
 pub mod Questions
 pub mod Answers
 pub mod Room

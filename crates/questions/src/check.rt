@@ -1,16 +1,16 @@
 // Questions 1 to 6: the length of the file, then each field, outer before inner, front to back.
 use super::content::content_allowed;
-use super::grammar::Advanced;
-use super::grammar::slots_of;
 use fields::cursor::Cursor;
 use fields::cursor::Part;
+use grammar::Advanced;
+use grammar::slots_of;
 use tags::is_composite;
 use tags::is_expression;
 ghost use mathlib.Core.Path.{_≡_};
 ghost use Prim.Native.Nat.{_+_, _≤_, _<_};
 ghost use lib.ListN.{length};
 ghost use Rattle.fields.specs.Field.{fields, fieldWith};
-ghost use Rattle.questions.specs.Grammar.{slotsOf};
+ghost use Rattle.grammar.specs.Grammar.{slotsOf};
 ghost use Rattle.questions.specs.Questions.{depthInside, askField, askFields, askForm};
 ghost use Rattle.questions.specs.Answers.{asked};
 ghost use Rattle.questions.specs.Room.{Room};

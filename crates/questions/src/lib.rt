@@ -2,7 +2,6 @@
 pub mod check;
 pub mod content;
 pub mod file;
-pub mod grammar;
 pub mod model;
 pub mod names;
 pub mod state;

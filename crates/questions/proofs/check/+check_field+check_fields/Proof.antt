@@ -15,9 +15,9 @@ use Rattle.tags.proofs.is_composite.Reads as is-composite-reads
 use Rattle.tags.proofs.is_expression.Reads as is-expression-reads
 use Rattle.questions.proofs.check.depth_inside.Reads as depth-inside-reads
 use Rattle.questions.proofs.content.content_allowed.Reads as content-allowed-reads
-use Rattle.questions.proofs.grammar.Slots.advance.Reads as advance-reads
-use Rattle.questions.proofs.grammar.Slots.is_complete.Reads as is-complete-reads
-use Rattle.questions.proofs.grammar.slots_of.Reads as slots-of-reads
+use Rattle.grammar.proofs.Slots.advance.Reads as advance-reads
+use Rattle.grammar.proofs.Slots.is_complete.Reads as is-complete-reads
+use Rattle.grammar.proofs.slots_of.Reads as slots-of-reads
 use Rattle.questions.proofs.check.+check_field+check_fields.{statement}
 use Rattle.questions.proofs.check.+check_field+check_fields.Tie.{close}
 

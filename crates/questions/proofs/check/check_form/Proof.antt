@@ -6,7 +6,7 @@ use borrow.Author.Needs.{needs}
 use borrow.Author.Tests.{le-leb, lt-leb}
 use lib.ListN.{length}
 use Rattle.fields.specs.Field.{fields}
-use Rattle.questions.specs.Grammar.{slotsOf}
+use Rattle.grammar.specs.Grammar.{slotsOf}
 use Rattle.questions.specs.Questions.{askFields, askForm}
 use Rattle.questions.specs.Answers.{asked}
 use Rattle.questions.specs.declared.check.Answer.{Answer}

@@ -1,9 +1,9 @@
 -- Each return is a row of the grammar, by the tests on the way to it.
 use Rattle.fields.proofs.Told.{told}
-use Rattle.questions.proofs.Rows.{file, state, genesis, entry, parameter, clause, others}
+use Rattle.grammar.proofs.Rows.{file, state, genesis, entry, parameter, clause, others}
 use borrow.Author.Needs.{needs}
-use Rattle.questions.proofs.grammar.item_slots.Statement.{statement}
-use Rattle.questions.proofs.grammar.item_slots.Tie as tie
+use Rattle.grammar.proofs.item_slots.Statement.{statement}
+use Rattle.grammar.proofs.item_slots.Tie as tie
 
 pub item-slots-spec : {M : Type 1} → statement M
 item-slots-spec =

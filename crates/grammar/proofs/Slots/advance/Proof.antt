@@ -2,11 +2,11 @@
 use mathlib.Core.Path.{_≡_, refl}
 use borrow.Author.Needs.{needs}
 use lib.ListN.{length}
-use Rattle.questions.specs.Grammar.{advance}
-use Rattle.questions.specs.Slots.{slotList}
-use Rattle.questions.proofs.Left.{fewer, stays, moves, refused, passed, refused-end}
-use Rattle.questions.proofs.grammar.Slots.advance.Statement.{statement}
-use Rattle.questions.proofs.grammar.Slots.advance.Tie as tie
+use Rattle.grammar.specs.Grammar.{advance}
+use Rattle.grammar.specs.Slots.{slotList}
+use Rattle.grammar.proofs.Left.{fewer, stays, moves, refused, passed, refused-end}
+use Rattle.grammar.proofs.Slots.advance.Statement.{statement}
+use Rattle.grammar.proofs.Slots.advance.Tie as tie
 
 pub advance-spec : {M : Type 1} → statement M
 advance-spec =

@@ -1,8 +1,8 @@
 -- The tags of each group, in one function a group.
 use Rattle.fields.proofs.Told.{told}
 use borrow.Author.Needs.{needs}
-use Rattle.questions.proofs.grammar.slots_of.Statement.{statement}
-use Rattle.questions.proofs.grammar.slots_of.Tie as tie
+use Rattle.grammar.proofs.slots_of.Statement.{statement}
+use Rattle.grammar.proofs.slots_of.Tie as tie
 
 pub slots-of-spec : {M : Type 1} → statement M
 slots-of-spec =

@@ -2,9 +2,9 @@
 use Prim.Native.Nat.{ℕ, zero, suc}
 use mathlib.Core.List.{List, [], _∷_}
 use mathlib.Core.Option.{Option, none, some}
-use Rattle.questions.specs.declared.grammar.Slots.{Slots}
-use Rattle.questions.specs.declared.grammar.Advanced.{Advanced}
-use Rattle.questions.specs.declared.grammar.Advanced.the-variants.{To, Refused}
+use Rattle.grammar.specs.declared.Slots.{Slots}
+use Rattle.grammar.specs.declared.Advanced.{Advanced}
+use Rattle.grammar.specs.declared.Advanced.the-variants.{To, Refused}
 
 -- up to the first 0, which is no slot
 unfoldable pub upToZero : List ℕ → List ℕ

@@ -9,10 +9,10 @@ use borrow.Author.Tests.{le-leb, lt-leb}
 use lib.Dec.{leb}
 use lib.ListN.{length}
 use Rattle.fields.specs.Lists.{all}
-use Rattle.questions.specs.Grammar.{inClass, advance, complete}
-use Rattle.questions.specs.Slots.{upToZero, slotList, leftBy}
-use Rattle.questions.specs.declared.grammar.Slots.{Slots}
-use Rattle.questions.specs.declared.grammar.Advanced.the-variants.{To, Refused}
+use Rattle.grammar.specs.Grammar.{inClass, advance, complete}
+use Rattle.grammar.specs.Slots.{upToZero, slotList, leftBy}
+use Rattle.grammar.specs.declared.Slots.{Slots}
+use Rattle.grammar.specs.declared.Advanced.the-variants.{To, Refused}
 
 -- a 0 behind the last slot is no slot either
 zero-behind : (a b c : ℕ) → upToZero (a ∷ b ∷ c ∷ 0 ∷ []) ≡ upToZero (a ∷ b ∷ c ∷ [])

@@ -1,9 +1,9 @@
 -- Each return is a row of the grammar, by the tests on the way to it.
 use Rattle.fields.proofs.Told.{told}
-use Rattle.questions.proofs.Rows.{assign, let-row, emit, guard}
+use Rattle.grammar.proofs.Rows.{assign, let-row, emit, guard}
 use borrow.Author.Needs.{needs}
-use Rattle.questions.proofs.grammar.statement_slots.Statement.{statement}
-use Rattle.questions.proofs.grammar.statement_slots.Tie as tie
+use Rattle.grammar.proofs.statement_slots.Statement.{statement}
+use Rattle.grammar.proofs.statement_slots.Tie as tie
 
 pub statement-slots-spec : {M : Type 1} → statement M
 statement-slots-spec =

@@ -21,8 +21,8 @@ ghost use mathlib.Core.Bool.{Bool};
 ghost use mathlib.Core.List.{[], _∷_};
 ghost use Prim.Native.Nat.{_<_};
 ghost use Rattle.tags.specs.Tag.{isExpression, isStatement};
-ghost use Rattle.questions.specs.Grammar.{inClass, takes, slotsOf, advance, complete};
-ghost use Rattle.questions.specs.Slots.{upToZero, slotList, leftBy};
+ghost use Rattle.grammar.specs.Grammar.{inClass, takes, slotsOf, advance, complete};
+ghost use Rattle.grammar.specs.Slots.{upToZero, slotList, leftBy};
 
 // The slots that are left for the parts of a field, the next one first; 0 is none. A slot is a class of tags, with 16 more
 // for at most one part and 32 more for any count.

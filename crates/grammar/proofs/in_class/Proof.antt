@@ -5,9 +5,9 @@ use Prim.Native.Nat.{ℕ}
 use borrow.Author.Needs.{needs}
 use lib.Dec.{eqb}
 use Rattle.tags.specs.Tag.{Name, TypeName, Parameter, isItem, isClause, isStatement, isExpression}
-use Rattle.questions.specs.Grammar.{name, typeName, item, parameter, clause, statement, expression, inClass}
-use Rattle.questions.proofs.grammar.in_class.Statement as of
-use Rattle.questions.proofs.grammar.in_class.Tie as tie
+use Rattle.grammar.specs.Grammar.{name, typeName, item, parameter, clause, statement, expression, inClass}
+use Rattle.grammar.proofs.in_class.Statement as of
+use Rattle.grammar.proofs.in_class.Tie as tie
 
 class-read : (c t : ℕ) (i l m e : Bool) → i ≡ isItem t → l ≡ isClause t → m ≡ isStatement t → e ≡ isExpression t →
     eqb c name && eqb t Name

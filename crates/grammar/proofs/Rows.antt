@@ -9,8 +9,8 @@ use Rattle.fields.specs.Lists.{sameBytes}
 use Rattle.tags.specs.Tag.{isExpression, isStatement, isAssign, isClause}
 use Rattle.tags.proofs.Below.{holdsBelow, implies, implied}
 use Rattle.fields.proofs.Texts.{bytes-equal}
-use Rattle.questions.specs.Grammar.{grammar, slotsIn, slotsOf}
-use Rattle.questions.specs.Slots.{upToZero}
+use Rattle.grammar.specs.Grammar.{grammar, slotsIn, slotsOf}
+use Rattle.grammar.specs.Slots.{upToZero}
 
 module _ (f : ℕ → Bool) (row : List ℕ) where
   row-by : holdsBelow (implies f (λ t. sameBytes row (slotsOf t))) 256 ≡ true → (t : ℕ) → t < 256 → f t ≡ true → row ≡ slotsOf t

@@ -2,11 +2,11 @@
 use mathlib.Core.Path.{_≡_, refl}
 use borrow.Author.Needs.{needs}
 use lib.ListN.{length}
-use Rattle.questions.specs.Grammar.{complete}
-use Rattle.questions.specs.Slots.{slotList}
-use Rattle.questions.proofs.Left.{fewer, incomplete, complete-on, complete-end}
-use Rattle.questions.proofs.grammar.Slots.is_complete.Statement.{statement}
-use Rattle.questions.proofs.grammar.Slots.is_complete.Tie as tie
+use Rattle.grammar.specs.Grammar.{complete}
+use Rattle.grammar.specs.Slots.{slotList}
+use Rattle.grammar.proofs.Left.{fewer, incomplete, complete-on, complete-end}
+use Rattle.grammar.proofs.Slots.is_complete.Statement.{statement}
+use Rattle.grammar.proofs.Slots.is_complete.Tie as tie
 
 pub is-complete-spec : {M : Type 1} → statement M
 is-complete-spec =

@@ -1,8 +1,8 @@
 -- Each return is a row of the grammar, by the tests on the way to it.
-use Rattle.questions.proofs.Rows.{binary, call, member, unary, leaf}
+use Rattle.grammar.proofs.Rows.{binary, call, member, unary, leaf}
 use borrow.Author.Needs.{needs}
-use Rattle.questions.proofs.grammar.expression_slots.Statement.{statement}
-use Rattle.questions.proofs.grammar.expression_slots.Tie as tie
+use Rattle.grammar.proofs.expression_slots.Statement.{statement}
+use Rattle.grammar.proofs.expression_slots.Tie as tie
 
 pub expression-slots-spec : {M : Type 1} → statement M
 expression-slots-spec =
