@@ -10,7 +10,7 @@ use lib.ListN.{length, getD}
 use Rattle.fields.specs.Lists.{any, filter, position, numbered, sameBytes}
 use Rattle.fields.specs.Field.{Field, Fields}
 use Rattle.tags.proofs.Bools.{and-right}
-use Rattle.questions.specs.Model.{stateNames}
+use Rattle.model.specs.Model.{stateNames}
 use Rattle.walking.specs.Walking.{debits, assetParams}
 use Rattle.matching.specs.Matching.{Cover, Source, Backing, Marks, debit, parameter, debitBackings, parameterBackings, backings, equals, bounds, equalCover, boundingCover, start}
 use Rattle.matching.specs.Matching.Cover.{reserve}

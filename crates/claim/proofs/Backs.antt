@@ -15,7 +15,7 @@ use Rattle.fields.specs.Field.{Field, Fields, nothing, part}
 use Rattle.tags.proofs.Bools.{and-left, and-right}
 use Rattle.fields.proofs.Lists.{any-append}
 use Rattle.fields.proofs.Texts.{bytes-equal}
-use Rattle.questions.specs.Model.{stateNames}
+use Rattle.model.specs.Model.{stateNames}
 use Rattle.walking.specs.Walking.{peel, receiver, debits, assetParams}
 use Rattle.equality.specs.Amount.{amountOf}
 use Rattle.tokens.specs.Tokens.{fundingToken, admittedInflowToken}

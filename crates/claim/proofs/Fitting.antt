@@ -12,7 +12,7 @@ use Rattle.fields.specs.Lists.{filter, numbered}
 use Rattle.tags.specs.Tag.{State, between}
 use Rattle.fields.specs.Field.{Field, Fields, fields, tag, fieldsTo, row, fieldsFrom, whole, after}
 use Rattle.tags.proofs.Bools.{and-right}
-use Rattle.questions.specs.Model.{stateNames, entries}
+use Rattle.model.specs.Model.{stateNames, entries}
 use Rattle.questions.specs.Questions.{Asked, passes, fails, ask, _andThen_, askForm, askFile, atMost}
 use Rattle.walking.specs.Walking.{debits, assetParams, isPayout, bodyExprs}
 use Rattle.matching.specs.Matching.{Cover, Marks, debitBackings, parameterBackings, answer}

@@ -8,7 +8,7 @@ use Rattle.tags.specs.Tag.{State, Entry, Parameter, Guard, AddTo, SubtractFrom,
 use Rattle.tags.specs.Tag.{isItem, isClause, isStatement, isAssign, isExpression, isText, isWrapper, composite}
 use Rattle.fields.specs.Field.{fields, fieldsTo, nth, row, fieldsFrom, size, sizes, placed, placedFrom}
 use Rattle.fields.proofs.Writing.{write, name, typeName, integer, identifier}
-use Rattle.questions.specs.Model.{states, stateNames, genesis, entries, params, body}
+use Rattle.model.specs.Model.{states, stateNames, genesis, entries, params, body}
 use Rattle.grammar.specs.Grammar.{inClass, grammar, slotsIn, advance, complete}
 use Rattle.questions.specs.Questions.{contentAllowed, askField, askFields, askNames, atMost, askForm, askFile}
 use Rattle.walking.specs.Walking.{peel, peelFirst, walk, walkParts, stmtExprs, bodyExprs, exprs, guards, ident, method, receiver, isDebit, isPayout, assetAmountBacker, isAssetParameter, assetParams, debits, payouts}

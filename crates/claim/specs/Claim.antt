@@ -12,7 +12,7 @@ use lib.Dec.{eqb}
 use lib.ListN.{length, getD, getElem?, take}
 use Rattle.fields.specs.Lists.{any, filter}
 use Rattle.fields.specs.Field.{Field, Fields, fields, nothing}
-use Rattle.questions.specs.Model.{stateNames}
+use Rattle.model.specs.Model.{stateNames}
 use Rattle.questions.specs.Questions.{passes, askFile}
 use Rattle.walking.specs.Walking.{peel, payouts}
 use Rattle.equality.specs.Equality.{exprEq}

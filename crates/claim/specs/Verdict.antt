@@ -5,7 +5,7 @@ use lib.Dec.{leb, ltb}
 use lib.ListN.{length, getD, drop}
 use Rattle.fields.specs.Lists.{filter}
 use Rattle.fields.specs.Field.{Field, Fields, Placed, fields, nothing}
-use Rattle.questions.specs.Model.{entries}
+use Rattle.model.specs.Model.{entries}
 use Rattle.questions.specs.Questions.{Asked, passes, fails, ask, _andThen_, atMost, askFile}
 use Rattle.walking.specs.Walking.{bodyExprs, isPayout, debits, assetParams, payouts}
 use Rattle.matching.specs.Matching.{Cover, Reason, Marks, cover, rejection, answer, start}

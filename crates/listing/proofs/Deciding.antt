@@ -9,9 +9,9 @@ use lib.Seq.{take-all, take-suc}
 use Rattle.fields.specs.Lists.{numbered}
 use Rattle.tags.specs.Tag.{Entry}
 use Rattle.fields.specs.Field.{Fields, fields, whole, fromNth}
-use Rattle.questions.specs.Model.{entries}
-use Rattle.questions.specs.Shown.{shown}
-use Rattle.questions.proofs.Accessors.{shown-nth}
+use Rattle.model.specs.Model.{entries}
+use Rattle.model.specs.Shown.{shown}
+use Rattle.model.proofs.Accessors.{shown-nth}
 use Rattle.walking.specs.Table.{placedAt}
 use Rattle.matching.specs.Tables.{entryOf}
 use Rattle.matching.specs.Matching.{Cover, Reason}

@@ -9,7 +9,7 @@ use lib.Dec.{ltb}
 use lib.ListN.{length, getD, length-append}
 use Rattle.fields.specs.Lists.{numbered, bytes}
 use Rattle.fields.specs.Field.{Field, Fields, fields}
-use Rattle.questions.specs.Model.{entries}
+use Rattle.model.specs.Model.{entries}
 use Rattle.questions.specs.Questions.{Asked, passes, fails, askFile}
 use Rattle.walking.specs.Walking.{payouts}
 use Rattle.matching.specs.Matching.{Cover, Marks, Answer, answer, start}

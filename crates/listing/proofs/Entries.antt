@@ -9,11 +9,11 @@ use mir.Val.{Fits}
 use lib.ListN.{length, take, drop}
 use Rattle.tags.specs.Tag.{Entry}
 use Rattle.fields.specs.Field.{fields, whole, after, from, fromNth}
-use Rattle.questions.specs.Model.{entries}
+use Rattle.model.specs.Model.{entries}
 use Rattle.questions.specs.Questions.{passes, fails, askFile}
 use Rattle.questions.specs.Answers.{asked}
-use Rattle.questions.specs.Shown.{shown}
-use Rattle.questions.proofs.Accessors.{shown-nth}
+use Rattle.model.specs.Shown.{shown}
+use Rattle.model.proofs.Accessors.{shown-nth}
 use Rattle.questions.specs.declared.check.Answer.{Answer}
 use Rattle.questions.specs.declared.check.Answer.the-variants.{Passes, Refused}
 use Rattle.tokens.specs.Fundings.{Fundings}

@@ -18,7 +18,7 @@ use Rattle.fields.specs.Field.Fields.{end, next}
 use Rattle.fields.proofs.Lists.{Every, every-filter}
 use Rattle.fields.proofs.Inside.{Stands}
 use Rattle.fields.proofs.Places.{tree-size}
-use Rattle.questions.specs.Model.{states, entries, nameOf}
+use Rattle.model.specs.Model.{states, entries, nameOf}
 use Rattle.grammar.specs.Grammar.{slotsOf, advance, complete}
 use Rattle.questions.specs.Questions.{Asked, passes, fails, ask, _andThen_, contentAllowed, depthInside, askField, askFields, askNames, atMost, askForm, askFile}
 use Rattle.walking.specs.Walking.{bodyExprs, isPayout, payouts}

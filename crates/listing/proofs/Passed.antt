@@ -9,7 +9,7 @@ use lib.Dec.{leb, ltb}
 use lib.ListN.{length, take, drop, length-drop}
 use Rattle.fields.specs.Lists.{filter}
 use Rattle.fields.specs.Field.{Fields, Placed, fields, whole}
-use Rattle.questions.specs.Model.{states, entries}
+use Rattle.model.specs.Model.{states, entries}
 use Rattle.questions.specs.Questions.{Asked, passes, fails, ask, _andThen_, atMost, askForm, askNames, askFile}
 use Rattle.walking.specs.Walking.{bodyExprs, isPayout, payouts}
 use Rattle.matching.specs.Matching.{Cover, start}

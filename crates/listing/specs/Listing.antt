@@ -4,7 +4,7 @@ use mathlib.Core.List.{List, [], _∷_, _++_, map, flatMap}
 use lib.ListN.{length}
 use Rattle.fields.specs.Lists.{bytes, numbered}
 use Rattle.fields.specs.Field.{Fields, fields}
-use Rattle.questions.specs.Model.{entries}
+use Rattle.model.specs.Model.{entries}
 use Rattle.questions.specs.Questions.{passes, fails, askFile}
 use Rattle.matching.specs.Matching.{Cover}
 use Rattle.claim.specs.Verdict.{refused, rejected, accepted, entryAt, entryVerdict, kind, index, spare}

@@ -8,7 +8,7 @@ use Rattle.fields.specs.Lists.{any, all, filter, find, removeFirst, position, n
 use Rattle.tags.specs.Tag.{State, Entry, Parameter, Guard, AddTo, SubtractFrom, ExpressionStatement, InAsset, Caller, Date, Member, Call, Checked, Wrapping, Eq, Ge, Sub, Mul, Div, composite, isExpression, isStatement, isWrapper, isAssign}
 use Rattle.fields.specs.Field.{Field, Fields, fields, fieldsTo, front, nth, row, fieldsFrom, size, sizes, placed, placedFrom}
 use Rattle.fields.proofs.Writing.{write, word, name, typeName, integer, identifier}
-use Rattle.questions.specs.Model.{entries, params, body, genesis, stateNames}
+use Rattle.model.specs.Model.{entries, params, body, genesis, stateNames}
 use Rattle.walking.specs.Walking.{peel, peelFirst, walk, walkParts, stmtExprs, bodyExprs, exprs, guards, ident, method, receiver, isDebit, isPayout, assetAmountBacker, isAssetParameter, assetParams, debits, payouts}
 use Rattle.equality.specs.Equality.{strip, sameText, exprEq, partsEq}
 use Rattle.conditions.specs.Conditions.{splitAnd, splitEach, splitFirst, negated, negatedEach, negatedFirst, conditionsOf, requiredConditions, opposite, operator}

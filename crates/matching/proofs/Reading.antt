@@ -8,7 +8,7 @@ use borrow.Author.Tests.{lt-ltb, le-ltb}
 use lib.Dec.{ltb}
 use lib.ListN.{length, getD, drop, length-drop}
 use Rattle.fields.specs.Field.{fields, front, part}
-use Rattle.questions.specs.Model.{nameOf}
+use Rattle.model.specs.Model.{nameOf}
 use Rattle.walking.specs.Walking.{peel, receiver, assetParams}
 use Rattle.bounds.specs.Backing.{backingField}
 use Rattle.walking.specs.Table.{placedAt}

@@ -7,7 +7,7 @@ use mathlib.Core.Option.{Option, none, some}
 use lib.Dec.{eqb}
 use Rattle.fields.specs.Lists.{any, find, removeFirst, position, sameBytes}
 use Rattle.fields.specs.Field.{Field, Fields}
-use Rattle.questions.specs.Model.{stateNames}
+use Rattle.model.specs.Model.{stateNames}
 use Rattle.walking.specs.Walking.{peel, present}
 use Rattle.equality.specs.Equality.{exprEq}
 use Rattle.tokens.specs.Tokens.{differ}

@@ -10,7 +10,7 @@ use borrow.Author.Tests.{ltb-true, ltb-false}
 use lib.Dec.{eqb, ltb}
 use Rattle.fields.specs.Lists.{any, find, sameBytes, position}
 use Rattle.fields.specs.Field.{Field, Fields, fields, front}
-use Rattle.questions.specs.Model.{stateNames}
+use Rattle.model.specs.Model.{stateNames}
 use Rattle.walking.specs.Walking.{peel, present}
 use Rattle.tokens.specs.Tokens.{differ}
 use Rattle.reserves.specs.Reserves.{reserveBoundingPayout}

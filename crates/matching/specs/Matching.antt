@@ -6,7 +6,7 @@ use mathlib.Core.Option.{none, some}
 use lib.Dec.{eqb}
 use Rattle.fields.specs.Lists.{any, find, removeFirst, position, numbered, sameBytes}
 use Rattle.fields.specs.Field.{Field, Fields, part}
-use Rattle.questions.specs.Model.{stateNames}
+use Rattle.model.specs.Model.{stateNames}
 use Rattle.walking.specs.Walking.{peel, present, receiver, assetParams, debits}
 use Rattle.equality.specs.Equality.{exprEq}
 use Rattle.equality.specs.Amount.{amountOf}

@@ -7,7 +7,7 @@ use mathlib.Core.List.{List, [], map}
 use lib.Dec.{ltb}
 use lib.ListN.{length, getD, take, drop}
 use Rattle.fields.specs.Field.{Field, Fields, fields, front, part}
-use Rattle.questions.specs.Model.{nameOf}
+use Rattle.model.specs.Model.{nameOf}
 use Rattle.walking.specs.Walking.{peel, receiver, assetParams, debits}
 use Rattle.equality.specs.Equality.{exprEq}
 use Rattle.equality.specs.Amount.{amountOf}

@@ -6,7 +6,7 @@ use bounds::bounded_by;
 use fields::bytes::skip;
 use fields::front::part_of;
 use fields::table::number_at;
-use questions::state::name_of;
+use model::name_of;
 use reserves::payout::payout_token;
 use tokens::ledger::NOT_LISTED;
 use tokens::ledger::funding_token;

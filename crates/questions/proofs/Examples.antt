@@ -7,7 +7,7 @@ use Rattle.fields.specs.Lists.{any, all, filter, sameBytes, known}
 use Rattle.tags.specs.Tag.{State, Genesis, Entry, Parameter, Limits, Denies, Guard, Let, Emit, Set, ExpressionStatement, Name, TypeName, Integer, Date, String, Identifier, Caller, InAsset, Member, Call, Eq, isItem, isClause, isStatement, isExpression, isText, composite}
 use Rattle.fields.specs.Field.{fields, fieldsTo, nth, row, fieldsFrom, size, sizes, placed, placedFrom}
 use Rattle.fields.proofs.Writing.{write, word, name, typeName, integer, identifier, times, nots}
-use Rattle.questions.specs.Model.{states, entries}
+use Rattle.model.specs.Model.{states, entries}
 use Rattle.grammar.specs.Grammar.{inClass, grammar, slotsIn, advance, complete}
 use Rattle.questions.specs.Questions.{Asked, contentAllowed, askField, askFields, askNames, atMost, askForm, askFile}
 use Rattle.questions.specs.Questions.Asked.{passes, fails}

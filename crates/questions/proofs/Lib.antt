@@ -2,4 +2,3 @@ pub mod Asking
 pub mod Noting
 pub mod Naming
 pub mod Examples
-pub mod Accessors

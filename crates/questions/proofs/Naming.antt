@@ -18,7 +18,7 @@ use Rattle.fields.proofs.Reading.{fields-next, fields-end}
 use Rattle.fields.proofs.Places.{front-size}
 use Rattle.fields.proofs.Parts.{tag-front}
 use Rattle.fields.proofs.Prefix.{restOf, prefix-ends, prefix-from}
-use Rattle.questions.specs.Model.{nameOf, states, stateNames}
+use Rattle.model.specs.Model.{nameOf, states, stateNames}
 use Rattle.questions.specs.Noted.{Noted, namesWith}
 use Rattle.questions.specs.Questions.{ask, _andThen_, askNames}
 use Rattle.questions.specs.Answers.{asked}

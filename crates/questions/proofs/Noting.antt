@@ -13,7 +13,7 @@ use Rattle.fields.specs.Lists.{any, sameBytes}
 use Rattle.fields.specs.Field.{tagOf, front}
 use Rattle.fields.proofs.Lists.{any-append}
 use Rattle.fields.proofs.Texts.{bytes-equal}
-use Rattle.questions.specs.Model.{nameOf}
+use Rattle.model.specs.Model.{nameOf}
 use Rattle.questions.specs.Noted.{nameNumber, noteOf, joinedNote, heldAt, shows, withNumber, Noted, namesWith}
 
 -- whether a place that holds this shows the note

@@ -8,7 +8,7 @@ use lib.ListN.{length, getD, set}
 use Rattle.fields.specs.Lists.{any, sameBytes}
 use Rattle.tags.specs.Tag.{State}
 use Rattle.fields.specs.Field.{tagOf, front}
-use Rattle.questions.specs.Model.{nameOf}
+use Rattle.model.specs.Model.{nameOf}
 
 -- the number of a text, behind bytes with the number n
 unfoldable pub numberFrom : ℕ → List ℕ → ℕ

@@ -10,7 +10,7 @@ use Rattle.tags.specs.Tag.{between, isExpression, isText}
 use Rattle.fields.specs.Field.{Field, Fields, Placed, fields, tag, size}
 use Rattle.fields.specs.Field.Field.{field}
 use Rattle.fields.specs.Field.Fields.{end, next}
-use Rattle.questions.specs.Model.{states, entries, nameOf}
+use Rattle.model.specs.Model.{states, entries, nameOf}
 use Rattle.grammar.specs.Grammar.{slotsOf, advance, complete}
 
 -- the answer to a run of questions: all pass, or the first "no", with its number and place

@@ -6,7 +6,7 @@ use fields::front::nth_from;
 use tags::ENTRY;
 ghost use mathlib.Core.Path.{_≡_};
 ghost use Rattle.fields.specs.Field.{fields};
-ghost use Rattle.questions.specs.Model.{entries};
+ghost use Rattle.model.specs.Model.{entries};
 ghost use Rattle.questions.specs.Questions.{atMost, askFile};
 ghost use Rattle.questions.specs.Answers.{asked};
 

@@ -2,6 +2,4 @@
 pub mod check;
 pub mod content;
 pub mod file;
-pub mod model;
 pub mod names;
-pub mod state;

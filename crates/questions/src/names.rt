@@ -1,13 +1,13 @@
 // Question 7: are state names different? Names that came before are noted in a table, by numbers made of their bytes, and a
 // name is compared with them only where the table shows its number.
 use super::check::Answer;
-use super::state::has_state;
-use super::state::name_of;
 use fields::bytes::keep;
 use fields::front::after_front;
 use fields::front::front_tag;
 use fields::front::is_whole;
 use fields::front::length_of;
+use model::has_state;
+use model::name_of;
 use tags::STATE;
 ghost use mathlib.Core.Path.{_≡_};
 ghost use mathlib.Core.Bool.{_&&_};
@@ -16,7 +16,7 @@ ghost use lib.Dec.{eqb};
 ghost use Rattle.fields.specs.Lists.{any, sameBytes};
 ghost use Rattle.tags.specs.Tag.{State};
 ghost use Rattle.fields.specs.Field.{tagOf, fields, front};
-ghost use Rattle.questions.specs.Model.{nameOf, states, stateNames};
+ghost use Rattle.model.specs.Model.{nameOf, states, stateNames};
 ghost use Rattle.questions.specs.Noted.{nameNumber, joinedNote, shows, withNumber, Noted, namesWith};
 ghost use Rattle.questions.specs.Questions.{askNames};
 ghost use Rattle.questions.specs.Answers.{asked};

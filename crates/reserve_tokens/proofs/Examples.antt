@@ -8,7 +8,7 @@ use Rattle.fields.specs.Lists.{any, all, filter, find, sameBytes, bytes, known}
 use Rattle.tags.specs.Tag.{State, Genesis, Entry, Parameter, Limits, Guard, Set, AddTo, SubtractFrom, ExpressionStatement, String as Text, Caller, InAsset, Member, Call, Checked, Wrapping, And, Eq, Ne, Add, Sub, Mul, composite, isAssign, isExpression, isStatement, isWrapper}
 use Rattle.fields.specs.Field.{fields, fieldsTo, front, nth, row, fieldsFrom, size, sizes, placed, placedFrom, encode}
 use Rattle.fields.proofs.Writing.{write, word, name, typeName, integer, identifier}
-use Rattle.questions.specs.Model.{genesis, entries, params, body}
+use Rattle.model.specs.Model.{genesis, entries, params, body}
 use Rattle.walking.specs.Walking.{peel, peelFirst, walk, walkParts, stmtExprs, bodyExprs, exprs, guards, ident, method, receiver, isDebit, assetAmountBacker, isAssetParameter, assetParams, debits}
 use Rattle.equality.specs.Equality.{exprEq, partsEq, strip, sameText}
 use Rattle.conditions.specs.Conditions.{splitAnd, splitEach, splitFirst, negated, negatedEach, negatedFirst, conditionsOf, requiredConditions, opposite, operator}

@@ -11,7 +11,7 @@ use Rattle.fields.specs.Lists.{any, filter, find}
 use Rattle.tags.specs.Tag.{Entry, SubtractFrom, Call, Add, Sub}
 use Rattle.fields.specs.Field.{Field, Fields, tag, part, nothing, nth, fieldsFrom}
 use Rattle.fields.proofs.Rows.{placed-row}
-use Rattle.questions.specs.Model.{body, entries}
+use Rattle.model.specs.Model.{body, entries}
 use Rattle.walking.specs.Walking.{peel, present, receiver, ident, isDebit, debits, exprs}
 use Rattle.walking.proofs.Calls.{debit-call}
 use Rattle.equality.specs.Equality.{exprEq}

@@ -11,7 +11,7 @@ use Rattle.tags.specs.Tag.{Entry, Guard, ExpressionStatement, Call}
 use Rattle.fields.specs.Table.{Listed}
 use Rattle.fields.specs.Field.{fields, whole, after, front, parts, fieldsFrom}
 use Rattle.fields.proofs.Reading.{after-less}
-use Rattle.questions.specs.Model.{body}
+use Rattle.model.specs.Model.{body}
 use Rattle.walking.specs.Walking.{present, receiver, bodyExprs}
 use Rattle.walking.specs.Table.{placedAt, placesOf}
 use Rattle.tokens.specs.Tokens.{single, isInflow}

@@ -6,7 +6,7 @@ use mathlib.Core.List.{List, [], _∷_, map}
 use Rattle.fields.specs.Lists.{all, filter, sameBytes}
 use Rattle.tags.specs.Tag.{State, Genesis}
 use Rattle.fields.specs.Field.{Field, fields, part, from, fieldsFrom}
-use Rattle.questions.specs.Model.{nameOf, genesis}
+use Rattle.model.specs.Model.{nameOf, genesis}
 use Rattle.walking.specs.Walking.{present}
 use Rattle.reserve_tokens.specs.ReserveTokens.{assigns, isZero, defaults, genesisValues}
 use Rattle.reserve_tokens.specs.Raising.{defaultPasses, genesisPasses}

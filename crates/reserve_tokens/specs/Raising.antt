@@ -9,7 +9,7 @@ use lib.ListN.{length, take, drop}
 use Rattle.fields.specs.Lists.{any, all, filter, sameBytes, known}
 use Rattle.tags.specs.Tag.{Entry, Guard, SubtractFrom, ExpressionStatement, Call, Add, Sub}
 use Rattle.fields.specs.Field.{Field, Fields, fields, whole, after, front, tag, part, nothing, fieldsFrom}
-use Rattle.questions.specs.Model.{nameOf, body}
+use Rattle.model.specs.Model.{nameOf, body}
 use Rattle.walking.specs.Walking.{peel, present, receiver, isDebit, assetParams, exprs}
 use Rattle.equality.specs.Equality.{exprEq}
 use Rattle.tokens.specs.Tokens.{differ, fundingToken}

@@ -7,7 +7,7 @@ use lib.Dec.{eqb}
 use Rattle.fields.specs.Lists.{any, all, filter, find, sameBytes, known}
 use Rattle.tags.specs.Tag.{State, Set, SubtractFrom, Integer, Eq, Add, Sub, isAssign}
 use Rattle.fields.specs.Field.{Field, Fields, tag, text, part, fieldsFrom}
-use Rattle.questions.specs.Model.{nameOf, genesis, entries, body}
+use Rattle.model.specs.Model.{nameOf, genesis, entries, body}
 use Rattle.walking.specs.Walking.{peel, withoutPlaces, exprs, guards, present, ident, receiver, debits}
 use Rattle.equality.specs.Equality.{exprEq}
 use Rattle.tokens.specs.Tokens.{single, besideInAsset, isInflow, isCredit, fundingToken}

@@ -8,7 +8,7 @@ use fields::front::is_whole;
 use fields::front::part_of;
 use fields::front::tag_of;
 use fields::front::text_of;
-use questions::state::name_of;
+use model::name_of;
 use tags::GENESIS;
 use tags::INTEGER;
 use tags::STATE;

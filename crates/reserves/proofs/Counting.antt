@@ -19,7 +19,7 @@ use Rattle.fields.proofs.Reading.{front-none}
 use Rattle.fields.proofs.Places.{front-size, parts-inside, tree-size}
 use Rattle.fields.proofs.Tables.{listed-none, listed-then, listed-front}
 use Rattle.fields.proofs.Listing.{Row}
-use Rattle.questions.specs.Model.{nameOf, stateNames, body}
+use Rattle.model.specs.Model.{nameOf, stateNames, body}
 use Rattle.walking.specs.Walking.{peel, peelFirst}
 use Rattle.walking.specs.Table.{placedAt}
 use Rattle.equality.specs.Equality.{exprEq}

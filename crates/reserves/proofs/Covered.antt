@@ -16,7 +16,7 @@ use Rattle.fields.proofs.Lists.{Every}
 use Rattle.tags.proofs.Ranges.{between-one}
 use Rattle.fields.proofs.Texts.{bytes-equal, bytes-same}
 use Rattle.fields.proofs.Inside.{Stands, parts-stand}
-use Rattle.questions.specs.Model.{stateNames, body}
+use Rattle.model.specs.Model.{stateNames, body}
 use Rattle.walking.specs.Walking.{guards}
 use Rattle.walking.specs.Table.{placedAt}
 use Rattle.equality.specs.Equality.{exprEq}

@@ -9,7 +9,7 @@ use Rattle.fields.specs.Lists.{any, all, filter, find, position, sameBytes, byt
 use Rattle.tags.specs.Tag.{State, Entry, Parameter, Guard, Set, AddTo, SubtractFrom, InAsset, Member, Checked, Wrapping, And, Eq, Lt, Gt, Le, Ge, Sub, Mul, composite, isAssign, isExpression, isStatement, isWrapper}
 use Rattle.fields.specs.Field.{fields, fieldsTo, front, nth, row, fieldsFrom, size, sizes, placed, placedFrom}
 use Rattle.fields.proofs.Writing.{write, name, typeName, integer, identifier}
-use Rattle.questions.specs.Model.{stateNames, genesis, entries, params, body}
+use Rattle.model.specs.Model.{stateNames, genesis, entries, params, body}
 use Rattle.walking.specs.Walking.{peel, peelFirst, walk, walkParts, stmtExprs, bodyExprs, exprs, guards, ident, method, receiver, isDebit, assetAmountBacker, isAssetParameter, assetParams, debits}
 use Rattle.walking.specs.Table.{placedAt}
 use Rattle.equality.specs.Equality.{exprEq, partsEq, strip, sameText}

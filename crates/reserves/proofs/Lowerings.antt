@@ -24,7 +24,7 @@ use Rattle.fields.proofs.Places.{front-size, parts-inside}
 use Rattle.fields.proofs.Inside.{Stands, parts-stand}
 use Rattle.fields.proofs.Tables.{listed-none, listed-front}
 use Rattle.fields.proofs.Listing.{Row}
-use Rattle.questions.specs.Model.{body}
+use Rattle.model.specs.Model.{body}
 use Rattle.walking.specs.Walking.{peel, peelFirst, ident}
 use Rattle.walking.specs.Table.{placedAt}
 use Rattle.equality.specs.Equality.{exprEq}

@@ -8,7 +8,7 @@ use lib.ListN.{length, take}
 use Rattle.fields.specs.Lists.{any, position, sameBytes}
 use Rattle.tags.specs.Tag.{Guard}
 use Rattle.fields.specs.Field.{Field, Fields, Placed, fields, tag, part, placedParts}
-use Rattle.questions.specs.Model.{stateNames, body}
+use Rattle.model.specs.Model.{stateNames, body}
 use Rattle.walking.specs.Table.{placedAt}
 use Rattle.equality.specs.Equality.{exprEq}
 use Rattle.reserves.specs.Reserves.{guardedField, guardedAmount, lowers}

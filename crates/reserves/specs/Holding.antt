@@ -6,7 +6,7 @@ use mathlib.Core.List.{List, []}
 use lib.ListN.{getD}
 use Rattle.fields.specs.Lists.{sameBytes, known}
 use Rattle.fields.specs.Field.{fields}
-use Rattle.questions.specs.Model.{stateNames}
+use Rattle.model.specs.Model.{stateNames}
 use Rattle.tokens.specs.Fundings.{tokenOf}
 use Rattle.reserve_tokens.specs.ReserveTokens.{reserveToken}
 use Rattle.reserves.specs.Asked.{askedToken}

@@ -7,7 +7,7 @@ use lib.ListN.{length, take, drop}
 use Rattle.fields.specs.Lists.{any, filter}
 use Rattle.tags.specs.Tag.{isAssign}
 use Rattle.fields.specs.Field.{Field, Placed, front, tag, parts, part, placed}
-use Rattle.questions.specs.Model.{body}
+use Rattle.model.specs.Model.{body}
 use Rattle.walking.specs.Walking.{ident}
 use Rattle.equality.specs.Equality.{exprEq}
 use Rattle.reserve_tokens.specs.ReserveTokens.{assigns}

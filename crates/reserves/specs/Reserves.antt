@@ -7,7 +7,7 @@ use lib.Dec.{eqb}
 use Rattle.fields.specs.Lists.{any, filter, find, sameBytes, known}
 use Rattle.tags.specs.Tag.{SubtractFrom, Wrapping, Lt, Gt, Le, Ge, Sub}
 use Rattle.fields.specs.Field.{Field, Fields, tag, part, nothing}
-use Rattle.questions.specs.Model.{stateNames, body}
+use Rattle.model.specs.Model.{stateNames, body}
 use Rattle.walking.specs.Walking.{peel, walk, withoutPlaces, guards, ident}
 use Rattle.equality.specs.Equality.{exprEq}
 use Rattle.tokens.specs.Tokens.{isInflow}

@@ -5,7 +5,7 @@ use super::payout::asked_token;
 use fields::bytes::same_bytes;
 use fields::front::nth_from;
 use fields::table::number_at;
-use questions::state::name_of;
+use model::name_of;
 use reserve_tokens::reserve::reserve_number;
 use tags::STATE;
 use tokens::number::token_of;

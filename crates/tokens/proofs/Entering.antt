@@ -13,7 +13,7 @@ use Rattle.fields.specs.Field.{Field, Placed, lengthOf, whole, after, front, si
 use Rattle.fields.proofs.Places.{front-size}
 use Rattle.fields.proofs.Rows.{after-size, restOf, from-shorter, from-placed, rest-next}
 use Rattle.fields.proofs.Tables.{listed-none, listed-then, listed-front}
-use Rattle.questions.specs.Model.{entries}
+use Rattle.model.specs.Model.{entries}
 use Rattle.walking.specs.Walking.{bodyExprs}
 use Rattle.walking.specs.Table.{placedAt}
 use Rattle.walking.proofs.Within.{within-length, body-within}

@@ -8,7 +8,7 @@ use Rattle.fields.specs.Lists.{any, all, filter, sameBytes, bytes, known}
 use Rattle.tags.specs.Tag.{Entry, Parameter, Limits, Denies, Guard, ExpressionStatement, InAsset, Caller, Member, Call, Checked, Wrapping, Not, Or, And, Eq, Ne, Lt, composite, isExpression, isStatement, isWrapper}
 use Rattle.fields.specs.Field.{fields, fieldsTo, front, nth, row, fieldsFrom, size, sizes, placed, placedFrom, placeOf}
 use Rattle.fields.proofs.Writing.{write, name, typeName, identifier}
-use Rattle.questions.specs.Model.{entries, params}
+use Rattle.model.specs.Model.{entries, params}
 use Rattle.walking.specs.Walking.{peel, peelFirst, peelPlace, peelFirstPlace, walk, walkParts, stmtExprs, bodyExprs, exprs, ident, method, receiver, assetAmountBacker, isAssetParameter, assetParams}
 use Rattle.conditions.specs.Conditions.{splitAnd, splitEach, splitFirst, negated, negatedEach, negatedFirst, conditionsOf, requiredConditions, opposite, operator}
 use Rattle.tokens.specs.Tokens.{single, besideInAsset, tokenNamed, tokensNamed, admittedInflowToken, isInflow, isCredit, isFunding, funds, ledgerFundingTokens, fundingToken}

@@ -11,7 +11,7 @@ use Rattle.tags.specs.Tag.{Entry}
 use Rattle.fields.specs.Field.{fields, whole, after, front, fieldsFrom}
 use Rattle.fields.proofs.Reading.{after-less}
 use Rattle.fields.proofs.Rows.{placed-row}
-use Rattle.questions.specs.Model.{entries}
+use Rattle.model.specs.Model.{entries}
 use Rattle.conditions.specs.Conditions.{requiredConditions}
 use Rattle.tokens.specs.Tokens.{tokensNamed, funds, ledgerFundingTokens, fundingToken}
 use Rattle.tokens.specs.Agreed.{fundingFrom}

@@ -17,7 +17,7 @@ use Rattle.fields.proofs.Lists.{Every, map-append, every-filter, every-flatMap}
 use Rattle.fields.proofs.Reading.{front-none}
 use Rattle.fields.proofs.Parts.{text-bytes}
 use Rattle.fields.proofs.Inside.{Stands, row-stands, parts-stand}
-use Rattle.questions.specs.Model.{entries}
+use Rattle.model.specs.Model.{entries}
 use Rattle.walking.specs.Walking.{withoutPlaces, peel, peelFirst, peelPlace, peelFirstPlace, ident}
 use Rattle.conditions.specs.Conditions.{Condition, requiredConditions, operator}
 use Rattle.conditions.proofs.Callers.{Holds, conditions-stand}

@@ -12,7 +12,7 @@ use Rattle.fields.specs.Field.{Field, Placed, fields, front, part}
 use Rattle.fields.proofs.Lists.{Every, every-filter}
 use Rattle.fields.proofs.Inside.{Stands}
 use Rattle.fields.proofs.Slices.{drop-step}
-use Rattle.questions.specs.Model.{entries}
+use Rattle.model.specs.Model.{entries}
 use Rattle.walking.specs.Walking.{withoutPlaces, bodyExprs, peel, receiver}
 use Rattle.walking.proofs.Callers.{body-stands, body-anywhere}
 use Rattle.tokens.specs.Tokens.{tokensNamed, isCredit, isInflow, isFunding, funds, ledgerFundingTokens, fundingToken}

@@ -10,7 +10,7 @@ use lib.ListN.{length, take, drop}
 use Rattle.fields.specs.Lists.{sameBytes, known}
 use Rattle.tags.specs.Tag.{Call}
 use Rattle.fields.specs.Field.{Field, Placed, fields, front, part}
-use Rattle.questions.specs.Model.{entries}
+use Rattle.model.specs.Model.{entries}
 use Rattle.walking.specs.Walking.{peel, receiver, bodyExprs}
 use Rattle.walking.specs.Table.{placedAt, placesOf}
 use Rattle.conditions.specs.Conditions.{Condition, requiredConditions}

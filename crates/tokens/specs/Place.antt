@@ -7,7 +7,7 @@ use lib.Dec.{eqb}
 use Rattle.fields.specs.Lists.{filter, known}
 use Rattle.tags.specs.Tag.{InAsset}
 use Rattle.fields.specs.Field.{Field, Fields, Placed, tag, parts, part, placeOf}
-use Rattle.questions.specs.Model.{entries}
+use Rattle.model.specs.Model.{entries}
 use Rattle.walking.specs.Walking.{peel, peelPlace}
 use Rattle.conditions.specs.Conditions.{Condition, requiredConditions}
 use Rattle.tokens.specs.Tokens.{tokenNamed, funds}

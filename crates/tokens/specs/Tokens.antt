@@ -6,7 +6,7 @@ use lib.Dec.{eqb}
 use Rattle.fields.specs.Lists.{any, all, filter, sameBytes, bytes, known}
 use Rattle.tags.specs.Tag.{InAsset, Eq}
 use Rattle.fields.specs.Field.{Field, Fields, tag, part}
-use Rattle.questions.specs.Model.{entries}
+use Rattle.model.specs.Model.{entries}
 use Rattle.walking.specs.Walking.{peel, withoutPlaces, exprs, ident, method, receiver, assetAmountBacker, assetParams}
 use Rattle.conditions.specs.Conditions.{Condition, requiredConditions, operator}
 

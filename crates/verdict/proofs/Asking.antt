@@ -12,9 +12,9 @@ use Rattle.tags.specs.Tag.{Entry}
 use Rattle.fields.specs.Field.{Field, Fields, Placed, fields, nothing, whole, front, placed, placedFrom}
 use Rattle.fields.proofs.Lists.{Every, every-filter}
 use Rattle.fields.proofs.Inside.{Stands, row-stands}
-use Rattle.questions.specs.Model.{entries}
+use Rattle.model.specs.Model.{entries}
 use Rattle.questions.specs.Questions.{passes, fails, atMost}
-use Rattle.questions.specs.Shown.{shown}
+use Rattle.model.specs.Shown.{shown}
 use Rattle.walking.specs.Walking.{bodyExprs, payouts}
 use Rattle.walking.specs.Table.{placedAt}
 use Rattle.verdict.specs.Calls.{wanted}

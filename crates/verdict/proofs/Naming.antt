@@ -17,7 +17,7 @@ use Rattle.fields.proofs.Lists.{Every, every-filter}
 use Rattle.fields.proofs.Rows.{after-size, restOf, from-shorter, from-placed, rest-next, placed-row}
 use Rattle.fields.proofs.Tables.{listed-none, listed-then}
 use Rattle.fields.proofs.Inside.{Stands, parts-stand}
-use Rattle.questions.specs.Model.{nameOf, params}
+use Rattle.model.specs.Model.{nameOf, params}
 use Rattle.walking.specs.Walking.{isAssetParameter, assetParams}
 use Rattle.walking.specs.Table.{placedAt}
 use Rattle.tokens.specs.Fundings.{Standing}

@@ -16,9 +16,9 @@ use Rattle.fields.proofs.Reading.{front-none}
 use Rattle.fields.proofs.Places.{front-size}
 use Rattle.fields.specs.Table.{Listed}
 use Rattle.fields.proofs.Tables.{listed-front}
-use Rattle.questions.specs.Model.{entries}
+use Rattle.model.specs.Model.{entries}
 use Rattle.questions.specs.Questions.{passes, fails, ask, _andThen_, atMost}
-use Rattle.questions.specs.Shown.{shown}
+use Rattle.model.specs.Shown.{shown}
 use Rattle.walking.specs.Walking.{withoutPlaces, bodyExprs, assetParams, debits, payouts}
 use Rattle.walking.specs.Table.{placedAt, placesOf}
 use Rattle.walking.proofs.Callers.{body-few}

@@ -11,8 +11,8 @@ use Rattle.fields.specs.Lists.{any, filter, known, sameBytes}
 use Rattle.tags.specs.Tag.{Call, isWrapper}
 use Rattle.fields.specs.Field.{Field, Fields, fields, front, whole, nothing, nth, placed}
 use Rattle.fields.specs.Table.{Listed}
-use Rattle.questions.specs.Model.{entries, body, stateNames}
-use Rattle.questions.specs.Shown.{shown}
+use Rattle.model.specs.Model.{entries, body, stateNames}
+use Rattle.model.specs.Shown.{shown}
 use Rattle.walking.specs.Walking.{peel, ident, bodyExprs, exprs, payouts}
 use Rattle.walking.specs.Table.{placedAt, placesOf}
 use Rattle.reserves.specs.Reserves.{reserveCovers, reserveBoundingPayout, containsInflow, guardedBy, lowers}

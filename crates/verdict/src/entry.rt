@@ -12,7 +12,7 @@ use matching::answer::Cover;
 use matching::answer::Reason;
 use matching::answer::answer_payout;
 use matching::marks::all_free;
-use questions::model::nth_entry;
+use model::nth_entry;
 use reserves::candidates::list_candidates;
 use tags::CALL;
 use tokens::ledger::NOT_LISTED;

@@ -4,7 +4,7 @@
 use super::calls::choose;
 use super::entry::less;
 use fields::front::is_whole;
-use questions::model::nth_entry;
+use model::nth_entry;
 use reserves::candidates::list_candidates;
 use reserves::covering::Reserve;
 use reserves::covering::reserve_bounding_payout;

@@ -10,7 +10,7 @@ use lib.ListN.{length, take, drop, length-take, length-drop}
 use Rattle.fields.specs.Lists.{any, sameBytes}
 use Rattle.fields.specs.Field.{fields, whole, after, front, parts, sizes}
 use Rattle.fields.proofs.Reading.{after-less, after-shorter}
-use Rattle.questions.specs.Model.{nameOf, params}
+use Rattle.model.specs.Model.{nameOf, params}
 use Rattle.walking.specs.Walking.{assetParams}
 use Rattle.walking.specs.Assets.{assetsIn, assetsFrom}
 

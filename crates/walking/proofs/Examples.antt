@@ -10,7 +10,7 @@ use Rattle.fields.specs.Lists.{filter, bytes, sameBytes}
 use Rattle.tags.specs.Tag.{Entry, Parameter, Limits, Guard, Let, Set, ExpressionStatement, Name, TypeName, Identifier, Caller, Not, Member, Call, Checked, Wrapping, Sub, Gt, composite, isExpression, isStatement, isWrapper}
 use Rattle.fields.specs.Field.{fields, fieldsTo, front, nth, nothing, tag, part, row, fieldsFrom, size, sizes, placed}
 use Rattle.fields.proofs.Writing.{write, name, typeName, identifier}
-use Rattle.questions.specs.Model.{params}
+use Rattle.model.specs.Model.{params}
 use Rattle.walking.specs.Walking.{peel, peelFirst, peelPlace, peelFirstPlace, walk, walkParts, stmtExprs, bodyExprs, exprs, guards, ident, method, receiver, isDebit, isPayout, assetAmountBacker, isAssetParameter, assetParams, debits, payouts}
 use Rattle.walking.specs.Table.{placesOf}
 

@@ -8,7 +8,7 @@ use Rattle.tags.specs.Tag.{Guard, Identifier, Caller, Member, Call, isStatement
 use Rattle.fields.specs.Field.{Field, Fields, Placed, tag, text, parts, part, nothing, size, placedParts, fieldsFrom}
 use Rattle.fields.specs.Field.Field.{field}
 use Rattle.fields.specs.Field.Fields.{end, next}
-use Rattle.questions.specs.Model.{nameOf, params}
+use Rattle.model.specs.Model.{nameOf, params}
 
 -- Peeling
 

@@ -7,7 +7,7 @@ use fields::front::is_whole;
 use fields::front::part_of;
 use fields::front::parts_of;
 use fields::front::text_of;
-use questions::state::name_of;
+use model::name_of;
 use tags::PARAMETER;
 ghost use mathlib.Core.Path.{_≡_};
 ghost use Prim.Native.Nat.{_≤_};

@@ -4,7 +4,7 @@ use borrow.Author.Needs.{needs}
 use lib.ListN.{length}
 use Rattle.fields.specs.Field.{fields}
 use Rattle.fields.proofs.Told.{told}
-use Rattle.questions.specs.Model.{entries}
+use Rattle.model.specs.Model.{entries}
 use Rattle.tokens.proofs.Entering.{fundings-unlisted}
 use Rattle.reserves.proofs.Remembering.{zeros-right}
 use Rattle.listing.proofs.Entries.{Entries, entries-none, entries-short, entries-table, entries-room, entries-same, entries-all, entries-fit, entries-less, entries-on}

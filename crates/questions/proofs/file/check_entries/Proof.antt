@@ -10,7 +10,7 @@ use Rattle.tags.specs.Tag.{Entry}
 use Rattle.fields.specs.Field.{Placed, fields, whole, fromNth, placedFrom}
 use Rattle.fields.proofs.Places.{no-bytes}
 use Rattle.fields.proofs.Rows.{restOf, nth-placed, nth-shorter, nth-whole}
-use Rattle.questions.specs.Model.{entries}
+use Rattle.model.specs.Model.{entries}
 use Rattle.questions.specs.Questions.{atMost}
 use Rattle.questions.specs.Questions.Asked.{passes, fails}
 use Rattle.questions.specs.Answers.{asked}

@@ -4,7 +4,7 @@ use mathlib.Core.Path.{_≡_}
 use mathlib.Core.List.{List, []}
 use borrow.Author.Needs.{needs}
 use Rattle.fields.specs.Field.{fields}
-use Rattle.questions.specs.Model.{states, entries}
+use Rattle.model.specs.Model.{states, entries}
 use Rattle.questions.specs.Questions.{askForm, askNames, atMost, askFile}
 use Rattle.questions.specs.Answers.{asked}
 use Rattle.questions.specs.declared.check.Answer.{Answer}

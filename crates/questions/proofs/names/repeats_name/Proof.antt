@@ -7,7 +7,7 @@ use borrow.Author.Needs.{needs}
 use borrow.Author.Tests.{eq-eqb, ne-eqb, not-true}
 use Rattle.fields.specs.Lists.{any, sameBytes}
 use Rattle.fields.specs.Field.{fields, front, tagOf}
-use Rattle.questions.specs.Model.{nameOf, stateNames}
+use Rattle.model.specs.Model.{nameOf, stateNames}
 use Rattle.questions.specs.Noted.{nameNumber, shows, Noted}
 use Rattle.questions.proofs.Noting.{not-shown, noted-other, noted-state}
 use Rattle.questions.proofs.Naming.{repeats}

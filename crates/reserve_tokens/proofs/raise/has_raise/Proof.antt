@@ -7,7 +7,7 @@ use borrow.Author.Needs.{needs}
 use Rattle.fields.specs.Lists.{any, filter}
 use Rattle.tags.specs.Tag.{Guard, ExpressionStatement}
 use Rattle.fields.specs.Field.{Field, fields, whole, front, parts, fieldsFrom}
-use Rattle.questions.specs.Model.{body}
+use Rattle.model.specs.Model.{body}
 use Rattle.reserve_tokens.specs.Raising.{isRaise, raising, raisesFrom}
 use Rattle.reserve_tokens.proofs.raise.has_raise.Statement.{statement}
 use Rattle.reserve_tokens.proofs.raise.has_raise.Tie as tie

@@ -7,7 +7,7 @@ use borrow.Author.Needs.{needs}
 use borrow.Author.Tests.{not-true, not-false}
 use Rattle.fields.specs.Lists.{sameBytes}
 use Rattle.fields.specs.Field.{Field, front, part}
-use Rattle.questions.specs.Model.{nameOf}
+use Rattle.model.specs.Model.{nameOf}
 use Rattle.walking.specs.Walking.{present}
 use Rattle.reserve_tokens.specs.ReserveTokens.{isZero}
 use Rattle.reserve_tokens.specs.Raising.{defaultPasses}

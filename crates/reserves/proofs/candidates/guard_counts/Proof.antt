@@ -8,7 +8,7 @@ use borrow.Author.Needs.{needs}
 use borrow.Author.Tests.{not-true, not-false}
 use Rattle.fields.specs.Lists.{any, sameBytes}
 use Rattle.fields.specs.Field.{Field, Fields, front}
-use Rattle.questions.specs.Model.{stateNames, body}
+use Rattle.model.specs.Model.{stateNames, body}
 use Rattle.equality.specs.Equality.{exprEq}
 use Rattle.reserves.specs.Reserves.{guardedField, guardedAmount, lowers}
 use Rattle.reserves.specs.Candidates.{counts}

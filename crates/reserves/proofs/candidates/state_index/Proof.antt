@@ -14,7 +14,7 @@ use Rattle.fields.specs.Field.{fields, whole, after, front, from}
 use Rattle.fields.proofs.Told.{told}
 use Rattle.fields.proofs.Reading.{after-less}
 use Rattle.fields.proofs.Rows.{ahead, from-row, from-less, from-shorter}
-use Rattle.questions.specs.Model.{nameOf, stateNames}
+use Rattle.model.specs.Model.{nameOf, stateNames}
 use Rattle.reserves.specs.Candidates.{stateIndex}
 use Rattle.reserves.proofs.candidates.state_index.Statement.{statement}
 use Rattle.reserves.proofs.candidates.state_index.Tie as tie

@@ -7,7 +7,7 @@ use borrow.Author.Needs.{needs}
 use Rattle.tags.specs.Tag.{State}
 use Rattle.fields.specs.Field.{Field, fields, front, nth, nothing, fieldsFrom, fromNth}
 use Rattle.fields.proofs.Rows.{nth-of-row}
-use Rattle.questions.specs.Model.{nameOf, stateNames}
+use Rattle.model.specs.Model.{nameOf, stateNames}
 use Rattle.reserves.specs.Holding.{stateName}
 use Rattle.reserves.proofs.holding.state_name.Statement.{statement}
 use Rattle.reserves.proofs.holding.state_name.Tie as tie

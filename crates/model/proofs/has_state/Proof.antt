@@ -10,9 +10,9 @@ use Rattle.tags.specs.Tag.{State}
 use Rattle.fields.specs.Field.{fields, whole, after, front, from, fieldsFrom}
 use Rattle.fields.proofs.Told.{told}
 use Rattle.fields.proofs.Rows.{ahead, from-row, from-less}
-use Rattle.questions.specs.Model.{nameOf, stateNames}
-use Rattle.questions.proofs.state.has_state.Statement.{statement}
-use Rattle.questions.proofs.state.has_state.Tie as tie
+use Rattle.model.specs.Model.{nameOf, stateNames}
+use Rattle.model.proofs.has_state.Statement.{statement}
+use Rattle.model.proofs.has_state.Tie as tie
 
 -- whether one of those ahead has the name
 abbrev anyAhead : List ℕ → List ℕ → Bool

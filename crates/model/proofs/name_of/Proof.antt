@@ -4,9 +4,9 @@ use mathlib.Core.List.{List}
 use Prim.Native.Nat.{ℕ}
 use borrow.Author.Needs.{needs}
 use Rattle.fields.specs.Field.{front, part, text}
-use Rattle.questions.specs.Model.{nameOf}
-use Rattle.questions.proofs.state.name_of.Statement.{statement}
-use Rattle.questions.proofs.state.name_of.Tie as tie
+use Rattle.model.specs.Model.{nameOf}
+use Rattle.model.proofs.name_of.Statement.{statement}
+use Rattle.model.proofs.name_of.Tie as tie
 
 name-read : (s x y : List ℕ) → front x ≡ part 0 (front s) → y ≡ text (front x) → y ≡ nameOf (front s)
 name-read s x y e f = rw (← e) f

@@ -1,9 +1,9 @@
 -- The clauses are the parts of an entry with their tags.
 use borrow.Author.Needs.{needs}
-use Rattle.questions.specs.Model.{clauses}
-use Rattle.questions.proofs.Accessors.{part-nth}
-use Rattle.questions.proofs.model.nth_clause.Statement.{statement}
-use Rattle.questions.proofs.model.nth_clause.Tie as tie
+use Rattle.model.specs.Model.{clauses}
+use Rattle.model.proofs.Accessors.{part-nth}
+use Rattle.model.proofs.nth_clause.Statement.{statement}
+use Rattle.model.proofs.nth_clause.Tie as tie
 
 pub nth-clause-spec : {M : Type 1} → statement M
 unfolding clauses

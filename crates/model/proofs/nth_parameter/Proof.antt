@@ -1,9 +1,9 @@
 -- The parameters are the parts of an entry with their tag.
 use borrow.Author.Needs.{needs}
-use Rattle.questions.specs.Model.{params}
-use Rattle.questions.proofs.Accessors.{part-nth}
-use Rattle.questions.proofs.model.nth_parameter.Statement.{statement}
-use Rattle.questions.proofs.model.nth_parameter.Tie as tie
+use Rattle.model.specs.Model.{params}
+use Rattle.model.proofs.Accessors.{part-nth}
+use Rattle.model.proofs.nth_parameter.Statement.{statement}
+use Rattle.model.proofs.nth_parameter.Tie as tie
 
 pub nth-parameter-spec : {M : Type 1} → statement M
 unfolding params

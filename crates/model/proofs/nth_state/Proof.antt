@@ -1,9 +1,9 @@
 -- The state fields are selected by their tag.
 use borrow.Author.Needs.{needs}
-use Rattle.questions.specs.Model.{states}
-use Rattle.questions.proofs.Accessors.{shown-nth}
-use Rattle.questions.proofs.model.nth_state.Statement.{statement}
-use Rattle.questions.proofs.model.nth_state.Tie as tie
+use Rattle.model.specs.Model.{states}
+use Rattle.model.proofs.Accessors.{shown-nth}
+use Rattle.model.proofs.nth_state.Statement.{statement}
+use Rattle.model.proofs.nth_state.Tie as tie
 
 pub nth-state-spec : {M : Type 1} → statement M
 unfolding states

@@ -1,9 +1,9 @@
 -- The entries are selected by their tag.
 use borrow.Author.Needs.{needs}
-use Rattle.questions.specs.Model.{entries}
-use Rattle.questions.proofs.Accessors.{shown-nth}
-use Rattle.questions.proofs.model.nth_entry.Statement.{statement}
-use Rattle.questions.proofs.model.nth_entry.Tie as tie
+use Rattle.model.specs.Model.{entries}
+use Rattle.model.proofs.Accessors.{shown-nth}
+use Rattle.model.proofs.nth_entry.Statement.{statement}
+use Rattle.model.proofs.nth_entry.Tie as tie
 
 pub nth-entry-spec : {M : Type 1} → statement M
 unfolding entries

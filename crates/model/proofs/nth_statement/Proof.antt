@@ -1,9 +1,9 @@
 -- The statements are the parts of an entry with their tags.
 use borrow.Author.Needs.{needs}
-use Rattle.questions.specs.Model.{body}
-use Rattle.questions.proofs.Accessors.{part-nth}
-use Rattle.questions.proofs.model.nth_statement.Statement.{statement}
-use Rattle.questions.proofs.model.nth_statement.Tie as tie
+use Rattle.model.specs.Model.{body}
+use Rattle.model.proofs.Accessors.{part-nth}
+use Rattle.model.proofs.nth_statement.Statement.{statement}
+use Rattle.model.proofs.nth_statement.Tie as tie
 
 pub nth-statement-spec : {M : Type 1} → statement M
 unfolding body

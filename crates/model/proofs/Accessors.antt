@@ -7,7 +7,7 @@ use native.Mathlib.Nat.{zero-add}
 use lib.ListN.{length, getD, take, drop}
 use Rattle.fields.specs.Field.{Field, fields, whole, front, part, parts, nth, nothing, fieldsFrom, placedFrom, fromNth}
 use Rattle.fields.proofs.Rows.{restOf, nth-placed, nth-of-row}
-use Rattle.questions.specs.Shown.{shown}
+use Rattle.model.specs.Shown.{shown}
 
 mapped : (l : List Field) (k : ℕ) → part 0 (getD l k nothing) ≡ getD (map (part 0) l) k nothing
 unfolding nth

@@ -1,9 +1,9 @@
 -- The genesis fields are selected by their tag, and each holds one statement.
 use borrow.Author.Needs.{needs}
-use Rattle.questions.specs.Model.{genesis}
-use Rattle.questions.proofs.Accessors.{inner-nth}
-use Rattle.questions.proofs.model.nth_genesis.Statement.{statement}
-use Rattle.questions.proofs.model.nth_genesis.Tie as tie
+use Rattle.model.specs.Model.{genesis}
+use Rattle.model.proofs.Accessors.{inner-nth}
+use Rattle.model.proofs.nth_genesis.Statement.{statement}
+use Rattle.model.proofs.nth_genesis.Tie as tie
 
 pub nth-genesis-spec : {M : Type 1} → statement M
 unfolding genesis
