@@ -53,11 +53,6 @@ nth-stands file (suc k) n (next f fs) e m = rw (← add-assoc n (size f) (placeO
 abbrev pub Shows : List ℕ → ℕ → List ℕ → Type 0
 Shows file n t = t ≡ take (length t) (drop n file)
 
-shows-none : (file : List ℕ) (n : ℕ) (t : List ℕ) → known t ≡ false → Shows file n t
-unfolding known
-shows-none file n [] e = refl
-shows-none file n (x ∷ xs) e = cc
-
 ident-shown : (file : List ℕ) (n : ℕ) (f : Field) → front (drop n file) ≡ f → Shows file (n + 3) (ident f)
 unfolding ident
 ident-shown file n f e = go (eqb (tag f) Identifier)

@@ -28,15 +28,14 @@ tail-of s t j e = go (leb j (length s)) refl
 tail-behind : (s t x : List ℕ) → t ≡ drop (length s - length t) s → (j : ℕ) → x ≡ drop j t → x ≡ drop (length s - length x) s
 tail-behind s t x e j f = tail-of s x (length s - length t + j) (f ∙ rw (← drop-drop j (length s - length t) s, ← e))
 
+-- the same of what stands behind a field
+pub tail-after : (s t y x : List ℕ) → t ≡ drop (length s - length t) s → y ≡ after t → x ≡ drop (length y - length x) y → x ≡ drop (length s - length x) s
+tail-after s t y x e f g = tail-behind s y x (tail-behind s t y e (3 + lengthOf t) f) (length y - length x) g
+
 -- from the first field of a range on, and from the next
 module _ (low high : ℕ) where
   pub tail-first : (s t : List ℕ) → t ≡ from low high s → t ≡ drop (length s - length t) s
   tail-first s t e = tail-of s t (placeFrom low high (fields s)) e
 
   pub tail-next : (s t y x : List ℕ) → t ≡ drop (length s - length t) s → y ≡ after t → x ≡ from low high y → x ≡ drop (length s - length x) s
-  tail-next s t y x e f g =
-      tail-behind s y x (tail-behind s t y e (3 + lengthOf t) f) (placeFrom low high (fields y)) g
-
--- of what stands behind a field
-pub tail-after : (s t y x : List ℕ) → t ≡ drop (length s - length t) s → y ≡ after t → x ≡ drop (length y - length x) y → x ≡ drop (length s - length x) s
-tail-after s t y x e f g = tail-behind s y x (tail-behind s t y e (3 + lengthOf t) f) (length y - length x) g
+  tail-next s t y x e f g = tail-after s t y x e f (tail-first y x g)
