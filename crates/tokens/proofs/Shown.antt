@@ -195,6 +195,9 @@ funding-shown file m =
 pub admitted-there : (s r : List ℕ) → r ≡ admittedInflowToken (front s) → Shows s (admittedPlace (length s) (front s)) r
 admitted-there s r e = rw e (admitted-shown s)
 
-pub funding-there : (file m : List ℕ) (k : ℕ) → tokenOf file k ≡ fundingToken (fields file) m → (r : List ℕ) → r ≡ tokenOf file k →
-    Shows file (fundingPlace (length file) (fields file) m) r
-funding-there file m k e r f = rw (f, e) (funding-shown file m)
+module _ (file m : List ℕ) (k : ℕ) (e : tokenOf file k ≡ fundingToken (fields file) m) (r : List ℕ) (f : r ≡ tokenOf file k) where
+  pub funding-read : r ≡ fundingToken (fields file) m
+  funding-read = f ∙ e
+
+  pub funding-there : Shows file (fundingPlace (length file) (fields file) m) r
+  funding-there = rw funding-read (funding-shown file m)

@@ -1,5 +1,6 @@
 -- The number stands for the token.
 use borrow.Author.Needs.{needs}
+use Rattle.tokens.proofs.Shown.{funding-read}
 use Rattle.tokens.proofs.ledger.funding_token.Statement.{statement}
 use Rattle.tokens.proofs.ledger.funding_token.Tie as tie
 
@@ -8,4 +9,4 @@ funding-token-spec =
     tie.close (tie.spec
     (λ c κs. search needs)  -- funding-number-requires
     (λ c κs. search needs)  -- token-of-requires
-    (λ c. cc))  -- returns
+    (λ c. search funding-read))  -- returns

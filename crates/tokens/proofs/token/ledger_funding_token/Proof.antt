@@ -1,6 +1,6 @@
 -- The number stands for the token, which stands where the definition says.
 use borrow.Author.Needs.{needs}
-use Rattle.tokens.proofs.Shown.{funding-there}
+use Rattle.tokens.proofs.Shown.{funding-read, funding-there}
 use Rattle.tokens.proofs.token.ledger_funding_token.Statement.{statement}
 use Rattle.tokens.proofs.token.ledger_funding_token.Tie as tie
 
@@ -9,4 +9,4 @@ ledger-funding-token-spec =
     tie.close (tie.spec
     (λ c κs. search needs)  -- ledger-funding-number-requires
     (λ c κs. search needs)  -- token-of-requires
-    (λ c. ((cc), search funding-there)))  -- returns
+    (λ c. (search funding-read, search funding-there)))  -- returns
