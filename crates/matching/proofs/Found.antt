@@ -14,7 +14,7 @@ use Rattle.equality.specs.Equality.{exprEq}
 use Rattle.matching.specs.Matching.{Backing, Marks}
 use Rattle.matching.specs.Numbers.{chosenBy, firstFrom, markIs}
 use Rattle.matching.specs.Standing.{freeAt, takenAt, amounts}
-use Rattle.matching.specs.Tables.{Tabled, entryOf, backingsOf, amountAt, tokenAt, backingAt, matches, passes}
+use Rattle.matching.specs.Tables.{Tabled, entryOf, backingsOf, amountAt, tokenAt, backingAt, matches, passes, passesBy}
 use Rattle.matching.specs.declared.marks.Marks.{Marks as Coded}
 use Rattle.matching.proofs.Chosen.{both, first-same, find-some, find-none}
 use Rattle.matching.proofs.Backed.{noBacking, backings-many, backing-is}
@@ -49,7 +49,7 @@ module _ (file : List ℕ) (place : ℕ) (table : List ℕ) (count total : ℕ) 
   module _ (bounding : Bool) (test : Backing → Bool) (same : (b : Backing) → test b ≡ matches bounding amount (b .amount)) where
     test-at : (wanted : Bool) (j : ℕ) → j < total →
         passes file place table count m wanted amount bounding j ≡ both noBacking (λ k. markIs wanted (freeAt m k)) test (backingsOf file place) j
-    unfolding passes backingAt
+    unfolding passesBy freeAt backingAt
     test-at wanted j h = rw (backing-is file place table count total t j h, same (backingAt file place table count j))
 
     pub first-at : (wanted : Bool) →

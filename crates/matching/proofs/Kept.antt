@@ -16,7 +16,7 @@ use Rattle.fields.specs.Field.{Field, Fields, fields}
 use Rattle.tags.proofs.Bools.{and-left}
 use Rattle.matching.specs.Matching.{Backing, Marks, backings, start}
 use Rattle.matching.specs.Numbers.{chosenBy, firstFrom, downFrom, markIs}
-use Rattle.matching.specs.Standing.{freeAt, takenAt, usedAt, amounts, marksOf, Stands, allFree, without, withUsed}
+use Rattle.matching.specs.Standing.{markAt, freeAt, takenAt, usedAt, amounts, marksOf, Stands, allFree, without, withUsed}
 use Rattle.matching.specs.Tables.{Tabled, entryOf, backingsOf, backingAt, matches, passes}
 use Rattle.matching.specs.declared.marks.Marks.{Marks as Coded}
 use Rattle.matching.proofs.Chosen.{both, Cleared, first-true, remove-chosen, taken-chosen}
@@ -46,7 +46,7 @@ unfolding without
 without-is m i h = rw (lt-ltb i 64 h)
 
 cleared-free : (m : Coded) (i : ℕ) → freeAt m i ≡ true → i < 64 → Cleared (freeAt m) (freeAt (cleared m i)) i
-unfolding freeAt
+unfolding freeAt markAt
 cleared-free m i e h = record {
   was = e;
   gone = rw (lt-ltb i 64 h) (cleared-mark (m .free) i);
@@ -131,7 +131,7 @@ none-chosen p [] h = refl
 none-chosen p (x ∷ xs) h = rw (h 0 (omega arith)) (none-chosen (λ i. p (suc i)) xs (λ i l. h (suc i) (omega arith)))
 
 free-first : (i : ℕ) → i < 64 → freeAt allFree i ≡ true
-unfolding freeAt allFree
+unfolding freeAt markAt allFree
 free-first i h = rw (lt-ltb i 64 h) (getD-replicate 64 i true false h)
 
 module _ (model : Fields) (entry : Field) (few : length (backings model entry) ≤ 64) where

@@ -14,19 +14,20 @@ use Rattle.equality.specs.Equality.{exprEq}
 use Rattle.bounds.specs.Bounds.{boundedByBacking}
 use Rattle.reserves.specs.Payouts.{payoutAmount}
 use Rattle.matching.specs.Numbers.{firstFrom, downFrom, markIs}
-use Rattle.matching.specs.Standing.{freeAt, usedAt, without, withUsed}
-use Rattle.matching.specs.Tables.{Tabled, Named, amountAt, matches, passes}
+use Rattle.matching.specs.Standing.{markAt, usedAt, without, withUsed}
+use Rattle.matching.specs.Tables.{Tabled, Named, amountAt, matches, passesBy}
 use Rattle.matching.specs.declared.marks.Marks.{Marks as Coded}
 
-module _ (m : Coded) (i : ℕ) where
-  pub free-in : i < 64 → getD (m .free) i false ≡ freeAt m i
-  unfolding freeAt
+module _ (free : List Bool) (i : ℕ) where
+  pub free-in : i < 64 → getD free i false ≡ markAt free i
+  unfolding markAt
   free-in h = rw (lt-ltb i 64 h)
 
-  pub free-out : 64 ≤ i → false ≡ freeAt m i
-  unfolding freeAt
+  pub free-out : 64 ≤ i → false ≡ markAt free i
+  unfolding markAt
   free-out h = rw (le-ltb i 64 h)
 
+module _ (m : Coded) (i : ℕ) where
   pub used-in : i < 64 → getD (m .used) i 0 ≡ usedAt m i
   unfolding usedAt
   used-in h = rw (lt-ltb i 64 h)
@@ -118,23 +119,21 @@ module _ (p : ℕ → Bool) (n i : ℕ) (v : Searching p n i) where
     unfolding firstFrom
     searching-on e = record { within = omega arith; left = let k : suc i ≡ i + 1 = omega arith in rw (e, k) at further }
 
--- one number of it
-module _ (file : List ℕ) (place : ℕ) (table : List ℕ) (count : ℕ) (m : Coded) (wanted : Bool) (amount : Field) (bounding : Bool) (i : ℕ)
-    (b : Bool) (e : b ≡ freeAt m i) (k : Bool) (f : k ≡ markIs wanted b) where
-  pub passes-not : not k ≡ true → false ≡ passes file place table count m wanted amount bounding i
-  unfolding passes
-  passes-not n = rw (← e, ← f, not-true k n)
+-- one number of it: the mark is asked first
+module _ (mark test k : Bool) (f : k ≡ mark) where
+  pub passes-not : not k ≡ true → false ≡ mark && test
+  passes-not n = rw (← f, not-true k n)
 
-  pub passes-match : not k ≡ false → (r : Bool) → r ≡ matches bounding amount (amountAt file place table count i) →
-      r ≡ passes file place table count m wanted amount bounding i
-  unfolding passes
-  passes-match n r g = rw (← e, ← f, not-false k n) g
+  pub passes-match : not k ≡ false → (r : Bool) → r ≡ test → r ≡ mark && test
+  passes-match n r g = rw (← f, not-false k n) g
 
 -- the test of a payout's amount is that of the part in which it stands
-pub passes-amount : (file : List ℕ) (place : ℕ) (table : List ℕ) (count : ℕ) (m : Coded) (wanted bounding : Bool) (i : ℕ) (s x : List ℕ) →
-    front x ≡ payoutAmount (front s) → (b : Bool) → b ≡ passes file place table count m wanted (front x) bounding i → (k : Bool) → b ≡ k →
-    passes file place table count m wanted (payoutAmount (front s)) bounding i ≡ k
-passes-amount file place table count m wanted bounding i s x e b f k h = rw (← e) (sym f ∙ h)
+pub passes-amount : (file : List ℕ) (place : ℕ) (table : List ℕ) (count : ℕ) (free : List Bool) (wanted bounding : Bool) (i : ℕ) (s x : List ℕ) →
+    front x ≡ payoutAmount (front s) → (d : Bool) → d ≡ markAt free i →
+    (b : Bool) → b ≡ markIs wanted d && matches bounding (front x) (amountAt file place table count i) → (k : Bool) → b ≡ k →
+    passesBy file place table count free wanted (payoutAmount (front s)) bounding i ≡ k
+unfolding passesBy
+passes-amount file place table count free wanted bounding i s x e d g b f k h = rw (← e, ← g) (sym f ∙ h)
 
 -- what the table says of the backing that is asked
 pub tabled-named : (file : List ℕ) (place : ℕ) (table : List ℕ) (count total : ℕ) → Tabled file place table count total → (i : ℕ) → i < total → Named file place table count i

@@ -11,9 +11,13 @@ use Rattle.matching.specs.Matching.{Backing, Marks}
 use Rattle.matching.specs.Numbers.{chosenBy, downFrom}
 use Rattle.matching.specs.declared.marks.Marks.{Marks as Coded}
 
+-- the mark of a number; past the last of 64 there is none
+unfoldable pub markAt : List Bool → ℕ → Bool
+markAt marks i = cond (ltb i 64) (getD marks i false) false
+
 -- a backing is free where its mark is set, and taken where it is not
 unfoldable pub freeAt : Coded → ℕ → Bool
-freeAt m i = cond (ltb i 64) (getD (m .free) i false) false
+freeAt m i = markAt (m .free) i
 
 unfoldable pub takenAt : Coded → ℕ → Bool
 takenAt m i = not (freeAt m i)

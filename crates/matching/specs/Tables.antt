@@ -17,7 +17,7 @@ use Rattle.tokens.specs.Fundings.{tokenOf}
 use Rattle.matching.specs.Matching.{Backing, backings}
 use Rattle.matching.specs.Matching.Source.{debit, parameter}
 use Rattle.matching.specs.Numbers.{markIs}
-use Rattle.matching.specs.Standing.{freeAt}
+use Rattle.matching.specs.Standing.{markAt}
 use Rattle.matching.specs.declared.marks.Marks.{Marks as Coded}
 
 -- the entry that stands at a place of the file
@@ -76,6 +76,10 @@ unfoldable pub matches : Bool → Field → Field → Bool
 matches bounding amount backing = cond bounding (boundedByBacking amount backing false) (exprEq backing (peel amount))
 
 -- whether the mark of backing number i is as wanted, and it matches
-unfoldable pub passes : List ℕ → ℕ → List ℕ → ℕ → Coded → Bool → Field → Bool → ℕ → Bool
-passes file place table count marks wanted amount bounding i =
-    markIs wanted (freeAt marks i) && matches bounding amount (amountAt file place table count i)
+unfoldable pub passesBy : List ℕ → ℕ → List ℕ → ℕ → List Bool → Bool → Field → Bool → ℕ → Bool
+passesBy file place table count free wanted amount bounding i =
+    markIs wanted (markAt free i) && matches bounding amount (amountAt file place table count i)
+
+-- by the marks of the pass
+abbrev pub passes : List ℕ → ℕ → List ℕ → ℕ → Coded → Bool → Field → Bool → ℕ → Bool
+passes file place table count marks wanted amount bounding i = passesBy file place table count (marks .free) wanted amount bounding i

@@ -5,6 +5,7 @@ use super::backing::backing_equals;
 use reserves::payout::payout_amount;
 use walking::peel::peel;
 ghost use mathlib.Core.Path.{_≡_};
+ghost use mathlib.Core.Bool.{_&&_};
 ghost use Prim.Native.Nat.{_+_};
 ghost use lib.Dec.{eqb};
 ghost use Rattle.fields.specs.Lists.{any};
@@ -12,7 +13,7 @@ ghost use Rattle.fields.specs.Field.{front};
 ghost use Rattle.reserves.specs.Payouts.{payoutAmount};
 ghost use Rattle.matching.specs.Numbers.{firstFrom, downFrom, markIs};
 ghost use Rattle.matching.specs.Tables.{Tabled, Named, amountAt, matches, passes};
-ghost use Rattle.matching.specs.Standing.{allFree, freeAt, usedAt, without, withUsed};
+ghost use Rattle.matching.specs.Standing.{allFree, markAt, usedAt, without, withUsed};
 
 // Backings by number, at most 64, and the state fields that are used, at most one for each of 64 payouts.
 pub struct Marks {
@@ -32,12 +33,12 @@ pub fn all_free() -> Marks
     }
 }
 
-// Whether backing number i is free.
-pub fn is_free(marks: Marks, i: usize) -> bool
-    ensures { λ r. ⌜ r ≡ freeAt marks i ⌝ }
+// Whether backing number i is free, by the marks of the free ones.
+fn is_free(free: [bool; 64], i: usize) -> bool
+    ensures { λ r. ⌜ r ≡ markAt free i ⌝ }
 {
     if i < 64 {
-        return marks.free[i];
+        return free[i];
     }
     false
 }
@@ -132,22 +133,22 @@ fn mark_is(wanted: bool, free: bool) -> bool
     !free
 }
 
-// Whether backing number i is free or taken, as is wanted, and matches.
+// Whether backing number i, whose mark is given, is free or taken, as is wanted, and matches.
 fn backing_passes(
     file: &[u8],
     place: usize,
     backings: &[u16],
     count: usize,
-    marks: Marks,
+    free: bool,
     wanted: bool,
     s: &[u8],
     bounding: bool,
     i: usize,
 ) -> bool
     requires { ⌜ Named (now file) place (now backings) count i ⌝ }
-    ensures { λ r. ⌜ r ≡ passes (now (file .entry)) place (now (backings .entry)) count marks wanted (front (now (s .entry))) bounding i ⌝ }
+    ensures { λ r. ⌜ r ≡ markIs wanted free && matches bounding (front (now (s .entry))) (amountAt (now (file .entry)) place (now (backings .entry)) count i) ⌝ }
 {
-    if !mark_is(wanted, is_free(marks, i)) {
+    if !mark_is(wanted, free) {
         return false;
     }
     backing_matches(file, place, backings, count, s, bounding, i)
@@ -170,6 +171,7 @@ pub fn first_backing(
     ensures { λ r. ⌜ r ≡ firstFrom (passes (now (file .entry)) place (now (backings .entry)) count marks wanted (payoutAmount (front (now (s .entry)))) bounding) 0 total ⌝ }
 {
     let amount = payout_amount(s);
+    let free = marks.free;
     let mut i = 0;
     while i < total {
         if backing_passes(
@@ -177,7 +179,7 @@ pub fn first_backing(
             place,
             backings,
             count,
-            marks,
+            is_free(free, i),
             wanted,
             amount,
             bounding,

@@ -7,7 +7,6 @@ use Rattle.matching.proofs.marks.backing_passes.Tie as tie
 pub backing-passes-spec : {M : Type 1} → statement M
 backing-passes-spec =
     tie.close (tie.spec
-    (λ c κs. search needs)  -- is-free-requires
     (λ c κs. search needs)  -- mark-is-requires
     (λ c. search passes-not)  -- returns
     (λ c κs. search needs)  -- backing-matches-requires

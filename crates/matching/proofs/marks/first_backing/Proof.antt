@@ -4,7 +4,7 @@ use native.Mathlib.Omega.{arith}
 use borrow.Author.Needs.{needs}
 use Rattle.fields.specs.Field.{front}
 use Rattle.reserves.specs.Payouts.{payoutAmount}
-use Rattle.matching.specs.Tables.{passes}
+use Rattle.matching.specs.Tables.{passesBy}
 use Rattle.matching.proofs.Marking.{Searching, searching-all, searching-none, searching-found, searching-on, passes-amount, tabled-named}
 use Rattle.matching.proofs.marks.first_backing.Statement.{statement}
 use Rattle.matching.proofs.marks.first_backing.Tie as tie
@@ -13,10 +13,11 @@ pub first-backing-spec : {M : Type 1} → statement M
 first-backing-spec =
     tie.close
     (tie.spec
-    (λ file place debits count total marks wanted s bounding amount i₀ i. Searching (passes file place debits count marks wanted (payoutAmount (front s)) bounding) total i)  -- Inv-loop
-    (λ file place debits count total marks wanted s bounding amount i₀ i. total - i)  -- μ-loop
+    (λ file place debits count total wanted s bounding amount free i₀ i. Searching (passesBy file place debits count free wanted (payoutAmount (front s)) bounding) total i)  -- Inv-loop
+    (λ file place debits count total wanted s bounding amount free i₀ i. total - i)  -- μ-loop
     (λ c κs. search needs)  -- payout-amount-requires
     (λ c. search searching-all)  -- loop-holds
+    (λ c κs. search needs)  -- is-free-requires
     (λ c κs. search tabled-named)  -- backing-passes-requires
     (λ c. search (searching-found, passes-amount))  -- returns
     (λ c. omega arith)  -- add-i
