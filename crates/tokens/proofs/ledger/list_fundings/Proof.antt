@@ -2,7 +2,7 @@
 use borrow.Author.Needs.{needs}
 use native.Mathlib.Omega.{arith}
 use lib.ListN.{length}
-use Rattle.fields.proofs.Told.{told}
+use Rattle.fields.proofs.Told.{told-is}
 use Rattle.fields.proofs.Rows.{from-less}
 use Rattle.tokens.proofs.Entering.{Entering, entering-first, entering-here, entering-on, entering-done}
 use Rattle.tokens.proofs.ledger.list_fundings.Statement.{statement}
@@ -21,7 +21,7 @@ list-fundings-spec =
     (λ c κs. search entering-here)  -- list-entry-requires
     (λ c κs. search needs)  -- after-front-requires
     (λ c κs. search needs)  -- first-from-requires-2
-    (λ c. search (from-less, told))  -- loop-less
-    (λ c. search (entering-on, told))  -- loop-again
+    (λ c. search (from-less, told-is))  -- loop-less
+    (λ c. search (entering-on, told-is))  -- loop-again
     (λ c. omega arith)  -- same-length
-    (λ c. search (entering-done, told)))  -- returns
+    (λ c. search (entering-done, told-is)))  -- returns
