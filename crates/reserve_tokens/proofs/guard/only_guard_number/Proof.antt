@@ -3,7 +3,7 @@ use native.Mathlib.Omega.{arith}
 use borrow.Author.Needs.{needs}
 use lib.ListN.{length, drop}
 use Rattle.fields.specs.Field.{front}
-use Rattle.fields.proofs.Told.{told}
+use Rattle.fields.proofs.Told.{told-is}
 use Rattle.fields.proofs.Rows.{from-less}
 use Rattle.reserve_tokens.specs.ReserveTokens.{guardTokens, only}
 use Rattle.reserve_tokens.proofs.Guarding.{Guarding, guarding-all, guarding-end, guarding-second, guarding-on}
@@ -25,10 +25,10 @@ only-guard-number-spec =
     (λ c. search needs)  -- sub-guard-number
     (λ c. omega arith)  -- add-guard-number-2
     (λ c κs. search needs)  -- guard-number-requires
-    (λ c. search (guarding-second, told))  -- returns
+    (λ c. search (guarding-second, told-is))  -- returns
     (λ c κs. search needs)  -- join-requires
     (λ c κs. search needs)  -- after-front-requires
     (λ c κs. search needs)  -- first-from-requires-2
-    (λ c. search (from-less, told))  -- loop-less
-    (λ c. search (guarding-on, told))  -- loop-again
-    (λ c. search (guarding-end, told)))  -- returns-2
+    (λ c. search (from-less, told-is))  -- loop-less
+    (λ c. search (guarding-on, told-is))  -- loop-again
+    (λ c. search (guarding-end, told-is)))  -- returns-2

@@ -2,7 +2,7 @@
 use borrow.Author.Needs.{needs}
 use lib.ListN.{length}
 use Rattle.tags.specs.Tag.{Guard, ExpressionStatement}
-use Rattle.fields.proofs.Told.{told}
+use Rattle.fields.proofs.Told.{told-is}
 use Rattle.fields.proofs.Rows.{from-less}
 use Rattle.fields.proofs.Choosing.{Choosing, choosing-first, choosing-none, choosing-here, choosing-on}
 use Rattle.reserve_tokens.specs.Raising.{isRaise}
@@ -19,9 +19,9 @@ first-raise-spec =
     (λ c. search choosing-first)  -- loop-holds
     (λ c κs. search needs)  -- is-whole-requires
     (λ c κs. search needs)  -- is-raise-requires
-    (λ c. (search (choosing-here, told), search needs))  -- returns
+    (λ c. (search (choosing-here, told-is), search needs))  -- returns
     (λ c κs. search needs)  -- after-front-requires
     (λ c κs. search needs)  -- first-from-requires-2
-    (λ c. search (from-less, told))  -- loop-less
-    (λ c. search (choosing-on, told))  -- loop-again
-    (λ c. (search (choosing-none, told), search needs)))  -- returns-2
+    (λ c. search (from-less, told-is))  -- loop-less
+    (λ c. search (choosing-on, told-is))  -- loop-again
+    (λ c. (search (choosing-none, told-is), search needs)))  -- returns-2

@@ -4,7 +4,7 @@ use mathlib.Core.Path.{_≡_}
 use borrow.Author.Needs.{needs}
 use lib.ListN.{length, drop}
 use Rattle.tags.specs.Tag.{Entry}
-use Rattle.fields.proofs.Told.{told}
+use Rattle.fields.proofs.Told.{told-is}
 use Rattle.fields.proofs.Rows.{from-less}
 use Rattle.fields.proofs.Choosing.{Choosing, choosing-first, choosing-none, choosing-here, choosing-on}
 use Rattle.tokens.proofs.Tails.{tail-first, tail-next}
@@ -22,9 +22,9 @@ first-raising-spec =
     (λ c. (search choosing-first, search tail-first))  -- loop-holds
     (λ c κs. search needs)  -- is-whole-requires
     (λ c κs. search needs)  -- has-raise-requires
-    (λ c. (search (choosing-here, told), (search needs, search needs)))  -- returns
+    (λ c. (search (choosing-here, told-is), (search needs, search needs)))  -- returns
     (λ c κs. search needs)  -- after-front-requires
     (λ c κs. search needs)  -- first-from-requires-2
-    (λ c. search (from-less, told))  -- loop-less
-    (λ c. (search (choosing-on, told), search tail-next))  -- loop-again
-    (λ c. (search (choosing-none, told), (search needs, search needs))))  -- returns-2
+    (λ c. search (from-less, told-is))  -- loop-less
+    (λ c. (search (choosing-on, told-is), search tail-next))  -- loop-again
+    (λ c. (search (choosing-none, told-is), (search needs, search needs))))  -- returns-2

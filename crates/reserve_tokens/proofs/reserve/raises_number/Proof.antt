@@ -2,7 +2,7 @@
 use native.Mathlib.Omega.{arith}
 use borrow.Author.Needs.{needs}
 use lib.ListN.{length}
-use Rattle.fields.proofs.Told.{told}
+use Rattle.fields.proofs.Told.{told-is, told-not, told-so}
 use Rattle.reserve_tokens.proofs.Held.{found-none}
 use Rattle.reserve_tokens.proofs.Reserving.{Entries, Raises, entries-all, entries-end, raises-all, raise-barred, raises-on, entries-next, entry-here, ahead-less, behind-less}
 use Rattle.reserve_tokens.proofs.reserve.raises_number.Statement.{statement}
@@ -26,7 +26,7 @@ raises-number-spec =
     (λ c κs. search needs)  -- has-unnamed-requires
     (λ c κs. search needs)  -- parts-of-requires
     (λ c κs. search needs)  -- first-raise-requires
-    (λ c. search (raises-all, told, needs))  -- loop-holds
+    (λ c. search (raises-all, told-so, needs))  -- loop-holds
     (λ c κs. search needs)  -- is-whole-requires-2
     (λ c κs. search needs)  -- raised-by-requires
     (λ c κs. search needs)  -- comes-in-requires
@@ -36,13 +36,13 @@ raises-number-spec =
     (λ c κs. search needs)  -- is-barred-requires
     (λ c κs. search needs)  -- receiver-requires
     (λ c κs. search needs)  -- next-raise-requires
-    (λ c. search (ahead-less, told))  -- loop-less
-    (λ c. raises-on _ _ _ _ _ _ _ _ _ _ _ _ (c .before .before .before .before .before .before .before .before .before .before .before .before .before .loop .inv) (search told) _ (c .before .before .before .before .before .before .before .before .before .before .raised-by .ensures) _ (c .before .before .before .before .before .before .before .before .before .comes-in .ensures) _ (c .before .before .before .before .before .before .before .raise-debit .ensures) _ (c .before .before .before .before .before .inflow-number .ensures) _ (c .before .before .before .before .raise-number .ensures) _ (c .before .before .before .is-barred .ensures) (search needs) _ (search needs) _ (search needs))  -- loop-again
+    (λ c. search (ahead-less, told-is))  -- loop-less
+    (λ c. raises-on _ _ _ _ _ _ _ _ _ _ _ _ (c .before .before .before .before .before .before .before .before .before .before .before .before .before .loop .inv) (search told-is) _ (c .before .before .before .before .before .before .before .before .before .before .raised-by .ensures) _ (c .before .before .before .before .before .before .before .before .before .comes-in .ensures) _ (c .before .before .before .before .before .before .before .raise-debit .ensures) _ (c .before .before .before .before .before .inflow-number .ensures) _ (c .before .before .before .before .raise-number .ensures) _ (c .before .before .before .is-barred .ensures) (search needs) _ (search needs) _ (search needs))  -- loop-again
     (λ c κs. search needs)  -- after-front-requires
     (λ c κs. search needs)  -- first-raising-requires-2
-    (λ c. search (behind-less, told))  -- search-less
-    (λ c. entries-next _ _ _ _ _ _ _ _ _ _ _ _ (c .before .before .before .before .loop .inv) _ (omega (arith, c .before .before .before .before .before .before .before .before .before .before .before .list-body .kept .1 .1 .1 .0, c .before .before .before .before .before .before .before .before .before .before .before .before .before .before .before .search .inv .wide)) (search needs) (search needs) (search told) (search told) _ _ (c .before .after-front .ensures) (search needs) (search needs) (search needs))  -- search-again
+    (λ c. search (behind-less, told-so))  -- search-less
+    (λ c. entries-next _ _ _ _ _ _ _ _ _ _ _ _ (c .before .before .before .before .loop .inv) _ (omega (arith, c .before .before .before .before .before .before .before .before .before .before .before .list-body .kept .1 .1 .1 .0, c .before .before .before .before .before .before .before .before .before .before .before .before .before .before .before .search .inv .wide)) (search needs) (search needs) (search told-so) (search told-is) _ _ (c .before .after-front .ensures) (search needs) (search needs) (search needs))  -- search-again
     (λ c. omega arith)  -- same-length
-    (λ c. (search (entries-end, told), search needs))  -- returns
+    (λ c. (search (entries-end, told-not), search needs))  -- returns
     (λ c. omega (arith, c .before .before .before .before .before .before .before .before .before .before .before .before .before .before .before .before .before .before .list-body .kept .1 .1 .1 .0, c .before .before .before .before .before .before .before .before .before .before .before .before .before .before .before .before .before .before .before .before .before .before .search .inv .wide))  -- same-length-2
-    (λ c. (search (raise-barred, told), search found-none)))  -- returns-2
+    (λ c. (search (raise-barred, told-is), search found-none)))  -- returns-2

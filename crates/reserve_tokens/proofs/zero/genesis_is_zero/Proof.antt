@@ -4,7 +4,7 @@ use lib.ListN.{length}
 use Rattle.fields.specs.Lists.{all}
 use Rattle.tags.specs.Tag.{Genesis}
 use Rattle.fields.specs.Field.{fields}
-use Rattle.fields.proofs.Told.{told}
+use Rattle.fields.proofs.Told.{told-is, told-not, told-so}
 use Rattle.fields.proofs.Rows.{from-less}
 use Rattle.reserve_tokens.specs.ReserveTokens.{isZero, genesisValues}
 use Rattle.reserve_tokens.specs.Raising.{genesisPasses}
@@ -23,9 +23,9 @@ genesis-is-zero-spec =
     (λ c. search genesis-all)  -- loop-holds
     (λ c κs. search needs)  -- is-whole-requires
     (λ c κs. search needs)  -- genesis-passes-requires
-    (λ c. search (passing-fails, told))  -- returns
+    (λ c. search (passing-fails, told-is, told-not))  -- returns
     (λ c κs. search needs)  -- after-front-requires
     (λ c κs. search needs)  -- first-from-requires-2
-    (λ c. search (from-less, told))  -- loop-less
-    (λ c. search (passing-on, told))  -- loop-again
-    (λ c. search (passing-end, told)))  -- returns-2
+    (λ c. search (from-less, told-is))  -- loop-less
+    (λ c. search (passing-on, told-is, told-so))  -- loop-again
+    (λ c. search (passing-end, told-is)))  -- returns-2
