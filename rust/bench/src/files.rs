@@ -46,6 +46,10 @@ pub fn samples() -> Vec<Sample> {
             "guards of an amount and lowerings",
             largest(asked_guards_and_lowerings),
         ),
+        sample(
+            "guards and lowerings of two amounts",
+            largest(guards_and_lowerings_of_two),
+        ),
         sample("state fields and guards", largest(states_and_guards)),
         sample(
             "conditions and parameters",
@@ -82,6 +86,14 @@ fn asked_guards_and_lowerings(count: usize) -> Vec<Field> {
     ]);
     parts.push(pays("T", identifier("n")));
     vec![state("r", None), entry("f", parts)]
+}
+
+/// The same with a payout that asks for the lowerings' amount too.
+fn guards_and_lowerings_of_two(count: usize) -> Vec<Field> {
+    let mut fields = asked_guards_and_lowerings(count);
+    let parts = fields[1].inner_mut().expect("entries have parts");
+    parts.push(pays("T", identifier("m")));
+    fields
 }
 
 /// Entries that each pay out of a reserve, whose raises are by a debit behind

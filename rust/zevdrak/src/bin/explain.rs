@@ -114,6 +114,7 @@ fn entry(file: &[u8], number: usize, field: &Field, states: &[String]) -> String
         }
     }
     lines.push(match answer {
+        Verdict::Accepted { payouts: 1 } => format!("# entry {number}: yes, 1 payout"),
         Verdict::Accepted { payouts } => format!("# entry {number}: yes, {payouts} payouts"),
         Verdict::Rejected { payout, .. } => format!("# entry {number}: no, payout {payout} has no cover"),
         Verdict::Refused(refusal) => format!(
