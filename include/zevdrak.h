@@ -9,12 +9,13 @@
 #include <stddef.h>
 #include <stdint.h>
 
-/* Bytes of covers that are enough for every entry, and bytes that are enough for every listing. */
+/* Bytes that are enough for the covers of every entry, for the records and for the listing of every file. */
 #define ZEVDRAK_COVERS 192
+#define ZEVDRAK_RECORDS 12608
 #define ZEVDRAK_LISTING 65536
 
-/* What zevdrak_verdict answers. */
-#define ZEVDRAK_ACCEPTED 0 /* first: the number of payouts; 3 bytes for each are written into the covers */
+/* What a verdict is, and its two numbers. */
+#define ZEVDRAK_ACCEPTED 0 /* first: the number of payouts, which have 3 bytes of covers each; second: 0 */
 #define ZEVDRAK_REJECTED 1 /* first: the payout that has no cover, counted from 0; second: the reason, 1 to 6 */
 #define ZEVDRAK_REFUSED 2  /* first: the question that said no, 1 to 12; second: the place in the file */
 
@@ -22,6 +23,14 @@
    (kind, then the index, most significant byte first); all other bytes of the covers stay as they are. */
 uint8_t zevdrak_verdict(const uint8_t *file, size_t file_length, size_t entry, uint8_t *covers, size_t covers_length,
                         size_t *first, size_t *second);
+
+/* The verdicts on all entries of a model file by one call. The answer is ZEVDRAK_ACCEPTED only where each entry is accepted:
+   publish a contract only then. Else it is ZEVDRAK_REFUSED where the file or an entry is refused, and ZEVDRAK_REJECTED where
+   none is. Into the front of records, which should have room for ZEVDRAK_RECORDS bytes, goes a record for each entry in file
+   order; a file that is refused has one for the refusal alone. A record is 5 bytes, and for an accepted entry its covers
+   behind them: what the verdict is, and its first and second number in two bytes each, most significant byte first. How many
+   bytes of records they take is written to length; where there is less room, the last records are cut off. */
+uint8_t zevdrak_contract(const uint8_t *file, size_t file_length, uint8_t *records, size_t records_length, size_t *length);
 
 /* The listing of a model file, as the program `payouts` prints it, written into the front of out; the answer is how many
    bytes of out it takes. */

@@ -1,4 +1,3 @@
 pub mod Refusal
 pub mod Token
 pub mod Reserve
-pub mod Answer

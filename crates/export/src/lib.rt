@@ -1,9 +1,10 @@
 // The functions that C and Rust call: numbers and slices only. A slice is a pointer and then a length.
 use bounds::bounded_by_backing;
+use contract::numbers::numbers_of;
+use contract::records::write_records;
 use equality::expr_eq;
 use fields::bytes::same_bytes;
 use listing::lines::listing;
-use matching::answer::Reason;
 use questions::check::Answer;
 use questions::file::check_file;
 use reserve_tokens::reserve::reserve_token;
@@ -11,7 +12,6 @@ use reserves::covering::Reserve;
 use tokens::ledger::NOT_LISTED;
 use tokens::token::admitted_inflow_token;
 use tokens::token::ledger_funding_token;
-use verdict::entry::Verdict;
 use verdict::file::file_verdict;
 use verdict::reserve::payout_reserve;
 ghost use mathlib.Core.Path.{_≡_};
@@ -21,35 +21,21 @@ ghost use Rattle.questions.specs.Questions.{askFile};
 ghost use Rattle.equality.specs.Equality.{exprEq};
 ghost use Rattle.bounds.specs.Bounds.{boundedByBacking};
 ghost use Rattle.tokens.specs.Tokens.{admittedInflowToken, fundingToken};
-ghost use Rattle.matching.specs.Coded.{reasonOf};
 ghost use Rattle.reserve_tokens.specs.ReserveTokens.{reserveToken};
-ghost use Rattle.claim.specs.Verdict.{verdict, written, reason};
+ghost use Rattle.claim.specs.Verdict.{verdict, written};
 ghost use Rattle.claim.specs.Claim.{Demand3};
 ghost use Rattle.listing.specs.Output.{Written};
 ghost use Rattle.listing.specs.Listing.{listing};
-ghost use Rattle.export.specs.Answer.{outcome, firstOf, secondOf};
+ghost use Rattle.contract.specs.Answer.{outcome, firstOf, secondOf};
+ghost use Rattle.contract.specs.Records as contract;
 ghost use Rattle.export.specs.Refusal.{questionIn, placeIn};
 ghost use Rattle.export.specs.Token.{isTokenOf};
 ghost use Rattle.export.specs.Reserve.{reserveNumber};
 
-// The number of a reason.
-fn number_of(why: Reason) -> usize
-    ensures { λ r. ⌜ r ≡ reason (reasonOf why) ⌝ }
-{
-    match why {
-        Reason::SplitWithoutAmount => 1,
-        Reason::ConflictAtEqual => 2,
-        Reason::AmountTaken => 3,
-        Reason::ConflictAtBounding => 4,
-        Reason::NoReserve => 5,
-        Reason::ReserveUsed => 6,
-    }
-}
-
-// The verdict on an entry of a file, counted from 0: 0 accepted, 1 rejected, 2 refused, with two numbers beside (specs/Answer).
-// Where it is accepted its covers are written in front of the lent ones. Demand 2 is `answer`, `first`, `second` and `covers`:
-// the verdict and the bytes are those of the rules. Demand 3 is `backed`: what the rules' verdict and these bytes say of the
-// entry's payouts.
+// The verdict on an entry of a file, counted from 0: 0 accepted, 1 rejected, 2 refused, with two numbers beside (Answer in the
+// specs of crates/contract). Where it is accepted its covers are written in front of the lent ones. Demand 2 is `answer`,
+// `first`, `second` and `covers`: the verdict and the bytes are those of the rules. Demand 3 is `backed`: what the rules' verdict
+// and these bytes say of the entry's payouts.
 #[no_mangle]
 pub extern "C" fn zevdrak_verdict(
     file: &[u8],
@@ -64,23 +50,23 @@ pub extern "C" fn zevdrak_verdict(
     ensures covers { λ r. ⌜ now (covers .exit) ≡ written (verdict (now (file .entry)) entry (length (now (covers .entry)))) (now (covers .entry)) ⌝ }
     ensures backed { λ r. ⌜ Demand3 (now (file .entry)) entry (now (covers .entry)) (verdict (now (file .entry)) entry (length (now (covers .entry)))) (now (covers .exit)) ⌝ }
 {
-    match file_verdict(file, entry, covers) {
-        Verdict::Accepted { payouts, spare: _ } => {
-            *first = payouts;
-            *second = 0;
-            0
-        }
-        Verdict::Rejected { payout, reason } => {
-            *first = payout;
-            *second = number_of(reason);
-            1
-        }
-        Verdict::Refused { number, place } => {
-            *first = number as usize;
-            *second = place;
-            2
-        }
-    }
+    let numbers = numbers_of(file_verdict(file, entry, covers));
+    *first = numbers.first;
+    *second = numbers.second;
+    numbers.outcome
+}
+
+// The verdicts on all entries of a file: a record of bytes for each (Records in the specs of crates/contract), written into the
+// front of records as far as it has room, and how many bytes of it they take. The answer is 0 where each entry is accepted; else
+// the largest of what they are, or 2 where the file is refused.
+#[no_mangle]
+pub extern "C" fn zevdrak_contract(file: &[u8], records: &mut [u8], length: &mut usize) -> u8
+    ensures answer { λ r. ⌜ r ≡ contract.outcomeOfAll (now (file .entry)) ⌝ }
+    ensures records { λ r. ⌜ Written (contract.records (now (file .entry))) (now («records» .entry)) 0 (now («records» .exit)) (now («length» .exit)) ⌝ }
+{
+    let recorded = write_records(file, records);
+    *length = recorded.end;
+    recorded.outcome
 }
 
 // The listing of a file, written into the front of out as far as it has room; the answer is how many bytes of out it takes.

@@ -57,7 +57,7 @@ line-length : (ws : List (List ℕ)) (w : List ℕ) → length (line w ws) ≡ l
 line-length [] w = rw length-append (omega arith)
 line-length (x ∷ ws) w = rw length-append (omega (arith, line-length ws x))
 
-refusal-short : (k p : ℕ) → k < 100 → p ≤ 65536 → length (refusalLine k p) ≤ 900
+refusal-short : (k p : ℕ) → k < 100 → p ≤ 65535 → length (refusalLine k p) ≤ 900
 unfolding refusalLine
 refusal-short k p g h = omega (arith, line-length (decimal k ∷ decimal p ∷ []) (bytes "r"), two-few k g, five-few p (omega (arith, h)))
 
@@ -85,7 +85,7 @@ cover-short i c g h =
 
 -- One behind the other
 
-each-short : (f : ℕ → List ℕ) (b n : ℕ) → ((i : ℕ) → i < n → length (f i) ≤ b) → length (flatMap f (below n)) ≤ n * b
+pub each-short : (f : ℕ → List ℕ) (b n : ℕ) → ((i : ℕ) → i < n → length (f i) ≤ b) → length (flatMap f (below n)) ≤ n * b
 unfolding below flatMap
 each-short f b zero h = omega arith
 each-short f b (suc n) h =
@@ -95,8 +95,8 @@ each-short f b (suc n) h =
 -- The verdict on an entry
 
 -- a refusal is short; a rejection names a payout below b
-abbrev Said : ℕ → Verdict → Type 0
-Said b (refused k p) = (k < 100) × (p ≤ 65536)
+abbrev pub Said : ℕ → Verdict → Type 0
+Said b (refused k p) = (k < 100) × (p ≤ 65535)
 Said b (rejected n r) = n < b
 Said b (accepted cs) = Unit {0}
 
@@ -123,11 +123,11 @@ module _ (file : List ℕ) (f : askFile file ≡ passes) (n : ℕ) (h : n < leng
   abbrev entry : Field
   entry = entryAt model n .this
 
-  entry-said : Said 64 (entryVerdict model n 192)
+  pub entry-said : Said 64 (entryVerdict model n 192)
   unfolding entryVerdict matching
   entry-said = go (askEntry model n 192) refl (fine-entry file (short-file file f) n h 192)
     where
-      go : (a : Asked) → askEntry model n 192 ≡ a → Fine 65536 a → Said 64 (elim a [ fails k p ↦ refused k p | passes ↦ matching model entry ])
+      go : (a : Asked) → askEntry model n 192 ≡ a → Fine 65535 a → Said 64 (elim a [ fails k p ↦ refused k p | passes ↦ matching model entry ])
       go passes e s = said-from model entry 64 (payouts entry) (start model entry) 0 (omega (arith, passed-room model n 192 e))
       go (fails k p) e s = s
 
@@ -176,7 +176,7 @@ pub enough : (file : List ℕ) → length (listing file) ≤ 65536
 unfolding listing
 enough file = go (askFile file) refl (fine-file file)
   where
-    go : (a : Asked) → askFile file ≡ a → Fine 65536 a →
+    go : (a : Asked) → askFile file ≡ a → Fine 65535 a →
         length {A = ℕ} (elim a [ fails number place ↦ refusalLine number place | passes ↦ flatMap (entryLines (fields file)) (below (length (entries (fields file)))) ]) ≤ 65536
     go (fails k p) e s = omega (arith, refusal-short k p (s .0) (s .1))
     go passes e s =

@@ -1,4 +1,5 @@
--- The listing of a file: a refusal, or the lines of the entries before the n-th, until there is none.
+-- The texts of the entries before the n-th are written, one behind the other, until there is no n-th; the listing is a refusal,
+-- or the lines of all entries.
 use Prim.Native.Nat.{ℕ, suc, _+_, _-_, _*_, _≤_, _<_}
 use mathlib.Core.Path.{_≡_, refl, sym, ap, _∙_}
 use mathlib.Core.Bool.{Bool, true, false}
@@ -25,12 +26,12 @@ use Rattle.listing.specs.Listing.{refusalLine, entryLines, listing, belo
 use Rattle.listing.proofs.Passed.{few-entries}
 use Rattle.listing.proofs.Repeating.{Repeating, repeating-none, repeating-room, repeating-same, repeating-on, repeating-all}
 
--- t is the file from the n-th entry on; the tables are those of the verdicts
-pub record Entries (file lent before table u fundings : List ℕ) (count : ℕ) (known t : List ℕ) (n m : ℕ) : Type 0 where
+-- f has the text of each entry; t is the file from the n-th entry on; the tables are those of the verdicts
+pub record Entries (f : ℕ → List ℕ) (file lent before table u fundings : List ℕ) (count : ℕ) (known t : List ℕ) (n m : ℕ) : Type 0 where
   pub passed : askFile file ≡ passes
   pub counted : n ≤ length (entries (fields file))
   pub here : t ≡ fromNth Entry Entry n file
-  pub lines : Repeating (entryLines (fields file)) before 0 u n m
+  pub texts : Repeating f before 0 u n m
   pub room : length file ≤ 3 * length lent
   pub same-table : length table ≡ length lent
   pub wide : length fundings ≡ 1930
@@ -50,25 +51,31 @@ module _ (file : List ℕ) (a : Answer) (e : asked a ≡ askFile file) where
   pub table-enough : a ≡ Passes → length file ≤ 32769
   table-enough f = omega (arith, short-file file (asked-all f))
 
-module _ (file lent before : List ℕ) where
+-- the lines of all entries
+pub all-listing : (file : List ℕ) → askFile file ≡ passes → (before u : List ℕ) (r : ℕ) →
+    Written (flatMap (entryLines (fields file)) (below (length (entries (fields file))))) before 0 u r → Written (listing file) before 0 u r
+unfolding listing
+all-listing file p before u r x = rw (listing, p) x
+
+module _ (f : ℕ → List ℕ) (file lent before : List ℕ) where
   pub entries-none : askFile file ≡ passes → length file ≤ 3 * length lent → (fundings : List ℕ) (count : ℕ) → length fundings ≡ 1930 → Fundings file fundings count →
-      (known : List ℕ) → length known ≡ 2979 → Right file known → (t : List ℕ) → t ≡ from Entry Entry file → Entries file lent before lent before fundings count known t 0 0
+      (known : List ℕ) → length known ≡ 2979 → Right file known → (t : List ℕ) → t ≡ from Entry Entry file → Entries f file lent before lent before fundings count known t 0 0
   unfolding fromNth
-  entries-none p r fundings count w f known l q t e =
+  entries-none p r fundings count w h known l q t e =
       record {
         passed = p;
         counted = omega arith;
         here = e;
-        lines = repeating-none (entryLines (fields file)) before 0 (omega arith);
+        texts = repeating-none f before 0 (omega arith);
         room = r;
         same-table = refl;
         wide = w;
-        funded = f;
+        funded = h;
         long = l;
         right = q;
       }
 
-  module _ (table u fundings : List ℕ) (count : ℕ) (known t : List ℕ) (n m : ℕ) (w : Entries file lent before table u fundings count known t n m) where
+  module _ (table u fundings : List ℕ) (count : ℕ) (known t : List ℕ) (n m : ℕ) (w : Entries f file lent before table u fundings count known t n m) where
     pub entries-short : length file ≤ 32768
     entries-short = short-file file (w .passed)
 
@@ -76,21 +83,18 @@ module _ (file lent before : List ℕ) where
     entries-table = omega (arith, w .room, w .same-table)
 
     pub entries-room : m ≤ length u
-    entries-room = repeating-room (entryLines (fields file)) before 0 u n m (w .lines)
+    entries-room = repeating-room f before 0 u n m (w .texts)
 
     pub entries-same : length u ≡ length before
-    entries-same = repeating-same (entryLines (fields file)) before 0 u n m (w .lines)
+    entries-same = repeating-same f before 0 u n m (w .texts)
 
-    nth-shown : shown file t ≡ take 1 (drop n (entries (fields file)))
+    pub nth-shown : shown file t ≡ take 1 (drop n (entries (fields file)))
     unfolding entries
     nth-shown = shown-nth Entry Entry n file t (w .here)
 
     -- whether there is an n-th entry
-    pub entries-all : whole t ≡ false → Written (listing file) before 0 u m
-    unfolding listing
-    entries-all g =
-        let p : askFile file ≡ passes = w .passed in
-        rw (listing, p) (repeating-all (entryLines (fields file)) before 0 u n m (w .lines) (length (entries (fields file))) (w .counted) (entry-missing file n t nth-shown g))
+    pub entries-all : whole t ≡ false → Written (flatMap f (below (length (entries (fields file))))) before 0 u m
+    entries-all g = repeating-all f before 0 u n m (w .texts) (length (entries (fields file))) (w .counted) (entry-missing file n t nth-shown g)
 
     module _ (g : whole t ≡ true) where
       there : n < length (entries (fields file))
@@ -102,17 +106,17 @@ module _ (file lent before : List ℕ) where
       pub entries-less : length (entries (fields file)) - (n + 1) < length (entries (fields file)) - n
       entries-less = omega (arith, there)
 
-      pub entries-on : (v : List ℕ) (r : ℕ) → Written (entryLines (fields file) n) u m v r → (s next : List ℕ) → s ≡ after t → next ≡ from Entry Entry s →
+      pub entries-on : (v : List ℕ) (r : ℕ) → Written (f n) u m v r → (s next : List ℕ) → s ≡ after t → next ≡ from Entry Entry s →
           (last : List ℕ) → length last ≡ length table → (calls : List ℕ) (k : ℕ) → length calls ≡ length fundings → Fundings file calls k →
-          (held : List ℕ) → length held ≡ length known → Right file held → Entries file lent before last v calls k held next (n + 1) r
+          (held : List ℕ) → length held ≡ length known → Right file held → Entries f file lent before last v calls k held next (n + 1) r
       unfolding fromNth
-      entries-on v r x s next e f last same calls k same-calls h held same-held q =
+      entries-on v r x s next e g last same calls k same-calls h held same-held q =
           let one : n + 1 ≡ suc n = omega arith in
           record {
             passed = w .passed;
             counted = omega (arith, there);
-            here = rw (one, ← w .here, ← e) f;
-            lines = repeating-on (entryLines (fields file)) before 0 u n m (w .lines) v r x;
+            here = rw (one, ← w .here, ← e) g;
+            texts = repeating-on f before 0 u n m (w .texts) v r x;
             room = w .room;
             same-table = same ∙ w .same-table;
             wide = same-calls ∙ w .wide;

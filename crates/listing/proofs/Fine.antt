@@ -100,25 +100,25 @@ module _ (b : ℕ) where
 
 -- of a file that passes question 1
 module _ (file : List ℕ) (short : length file ≤ 32768) where
-  fields-end : Every (Ends 65536) (placed 0 (fields file))
-  fields-end = row-ends 65536 0 (fields file) (omega (arith, short, tree-size file))
+  fields-end : Every (Ends 65535) (placed 0 (fields file))
+  fields-end = row-ends 65535 0 (fields file) (omega (arith, short, tree-size file))
 
-  entries-end : Every (Ends 65536) (entries (fields file))
+  entries-end : Every (Ends 65535) (entries (fields file))
   unfolding entries placedFrom
-  entries-end = every-filter (Ends 65536) (λ p. between Entry Entry (tag (p .this))) (placed 0 (fields file)) fields-end
+  entries-end = every-filter (Ends 65535) (λ p. between Entry Entry (tag (p .this))) (placed 0 (fields file)) fields-end
 
-  states-end : Every (Ends 65536) (states (fields file))
+  states-end : Every (Ends 65535) (states (fields file))
   unfolding states placedFrom
-  states-end = every-filter (Ends 65536) (λ p. between State State (tag (p .this))) (placed 0 (fields file)) fields-end
+  states-end = every-filter (Ends 65535) (λ p. between State State (tag (p .this))) (placed 0 (fields file)) fields-end
 
-  fine-short : Fine 65536 (askFile file)
+  fine-short : Fine 65535 (askFile file)
   unfolding askFile askForm
   fine-short =
-      fine-then 65536 (askForm file) _
-      (fine-then 65536 (ask (leb (length file) 32768) 1 0) _ (fine-ask 65536 (leb (length file) 32768) 1 0 (omega arith) (omega arith))
-      (fine-fields 65536 (slotsOf 0) 0 1 0 (fields file) (omega arith) (omega (arith, short, tree-size file))))
-      (fine-then 65536 (askNames [] (states (fields file))) _ (fine-names 65536 [] (states (fields file)) states-end)
-      (fine-most 65536 64 8 (entries (fields file)) (omega arith) (record { place = 0; this = nothing }) (ends-at 65536 (entries (fields file)) entries-end 64)))
+      fine-then 65535 (askForm file) _
+      (fine-then 65535 (ask (leb (length file) 32768) 1 0) _ (fine-ask 65535 (leb (length file) 32768) 1 0 (omega arith) (omega arith))
+      (fine-fields 65535 (slotsOf 0) 0 1 0 (fields file) (omega arith) (omega (arith, short, tree-size file))))
+      (fine-then 65535 (askNames [] (states (fields file))) _ (fine-names 65535 [] (states (fields file)) states-end)
+      (fine-most 65535 64 8 (entries (fields file)) (omega arith) (record { place = 0; this = nothing }) (ends-at 65535 (entries (fields file)) entries-end 64)))
 
   -- the entry with a number: its payouts are calls, whose places the table of calls holds in two bytes
   module _ (n : ℕ) (h : n < length (entries (fields file))) where
@@ -130,7 +130,7 @@ module _ (file : List ℕ) (short : length file ≤ 32768) where
         let q : Stands file entry = every-at (Stands file) (entries (fields file)) (entries-stand file) n (record { place = 0; this = nothing }) h in
         ap (λ x. record { place = entry .place; this = x }) q
 
-    payout-ends : getD (wantedIn true entry) 64 (record { place = 0; this = nothing }) .place ≤ 65536
+    payout-ends : getD (wantedIn true entry) 64 (record { place = 0; this = nothing }) .place ≤ 65535
     unfolding chosenOf
     payout-ends =
         let c : chosenOf file true (placesOf Call (bodyExprs entry)) ≡ map (λ p. p .place) (wantedIn true entry) =
@@ -141,24 +141,24 @@ module _ (file : List ℕ) (short : length file ≤ 32768) where
         ∙ sym (ap (λ l. getD l 64 0) c) ∙ List·getD-map (λ k. k % 65536) ks 64 0 in
         omega (arith, e)
 
-    pub fine-entry : (lent : ℕ) → Fine 65536 (askEntry (fields file) n lent)
+    pub fine-entry : (lent : ℕ) → Fine 65535 (askEntry (fields file) n lent)
     unfolding askEntry wanted
     fine-entry lent =
-        fine-then 65536 (ask (ltb n (length (entries (fields file)))) 9 0) _ (fine-ask 65536 (ltb n (length (entries (fields file)))) 9 0 (omega arith) (omega arith))
-        (fine-then 65536 (atMost 64 10 (filter (λ p. isPayout (p .this)) (bodyExprs entry))) _
-        (fine-most 65536 64 10 (wantedIn true entry) (omega arith) (record { place = 0; this = nothing }) payout-ends)
-        (fine-then 65536 (ask (leb (backingCount (entry .this)) 64) 11 (entry .place)) _
-        (fine-ask 65536 (leb (backingCount (entry .this)) 64) 11 (entry .place) (omega arith) (ends-at 65536 (entries (fields file)) entries-end n))
-        (fine-ask 65536 (leb (3 * length (payouts (entry .this))) lent) 12 0 (omega arith) (omega arith))))
+        fine-then 65535 (ask (ltb n (length (entries (fields file)))) 9 0) _ (fine-ask 65535 (ltb n (length (entries (fields file)))) 9 0 (omega arith) (omega arith))
+        (fine-then 65535 (atMost 64 10 (filter (λ p. isPayout (p .this)) (bodyExprs entry))) _
+        (fine-most 65535 64 10 (wantedIn true entry) (omega arith) (record { place = 0; this = nothing }) payout-ends)
+        (fine-then 65535 (ask (leb (backingCount (entry .this)) 64) 11 (entry .place)) _
+        (fine-ask 65535 (leb (backingCount (entry .this)) 64) 11 (entry .place) (omega arith) (ends-at 65535 (entries (fields file)) entries-end n))
+        (fine-ask 65535 (leb (3 * length (payouts (entry .this))) lent) 12 0 (omega arith) (omega arith))))
 
 long-refused : (file : List ℕ) → leb (length file) 32768 ≡ false → askFile file ≡ fails 1 0
 unfolding askFile askForm
 long-refused file e = cc e
 
 -- of any file
-pub fine-file : (file : List ℕ) → Fine 65536 (askFile file)
+pub fine-file : (file : List ℕ) → Fine 65535 (askFile file)
 fine-file file = go (leb (length file) 32768) refl
   where
-    go : (b : Bool) → leb (length file) 32768 ≡ b → Fine 65536 (askFile file)
+    go : (b : Bool) → leb (length file) 32768 ≡ b → Fine 65535 (askFile file)
     go true e = fine-short file (leb-true (length file) 32768 e)
     go false e = rw (long-refused file e) (omega arith, omega arith)

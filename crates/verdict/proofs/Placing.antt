@@ -214,7 +214,7 @@ module _ (file : List ℕ) (n : ℕ) (r : List ℕ) (e : shown file r ≡ take 1
     there : entryAt (fields file) n ≡ placedAt file place
     there = entry-there file n r e w place f
 
-    past-ninth : (lent : ℕ) → entryVerdict (fields file) n lent ≡ placedVerdict (fields file) (placedAt file place) lent
+    pub past-ninth : (lent : ℕ) → entryVerdict (fields file) n lent ≡ placedVerdict (fields file) (placedAt file place) lent
     past-ninth lent = not-ninth (fields file) n lent (entry-counted file n r e w place f) (placedAt file place) there
 
     module _ (lent : List ℕ) where

@@ -62,7 +62,7 @@ unfolding sheet
 sheet-append [] ds = refl
 sheet-append (c ∷ cs) ds = rw (sheet-append cs ds)
 
-sheet-long : (cs : List Cover) → length (sheet cs) ≡ 3 * length cs
+pub sheet-long : (cs : List Cover) → length (sheet cs) ≡ 3 * length cs
 unfolding sheet
 sheet-long [] = refl
 sheet-long (c ∷ cs) = rw (sheet-long cs) (omega arith)

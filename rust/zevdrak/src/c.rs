@@ -12,6 +12,13 @@ extern "C" {
         first: *mut usize,
         second: *mut usize,
     ) -> u8;
+    pub fn zevdrak_contract(
+        file: *const u8,
+        file_length: usize,
+        records: *mut u8,
+        records_length: usize,
+        length: *mut usize,
+    ) -> u8;
     pub fn zevdrak_listing(file: *const u8, file_length: usize, out: *mut u8, out_length: usize) -> usize;
     pub fn zevdrak_check_file(file: *const u8, length: usize, place: *mut usize) -> u8;
     pub fn zevdrak_expr_eq(

@@ -2,27 +2,25 @@
 //! The payout checker for Quanta contracts, proved, called from Rust.
 //!
 //! ```
-//! use zevdrak::{covers, verdict, Kind, Verdict, COVERS};
+//! use zevdrak::{contract, Kind, Outcome};
 //!
 //! // An entry that pays out what came in with its asset parameter.
 //! let file = include_bytes!("../../../examples/K03.model");
-//! let mut lent = [0; COVERS];
-//! match verdict(file, 0, &mut lent) {
-//!     Verdict::Accepted { payouts } => {
-//!         let found = covers(&lent[..3 * payouts]);
-//!         assert_eq!((found[0].kind, found[0].index), (Kind::EqualParameter, 0));
-//!     }
-//!     Verdict::Rejected { payout, reason } => panic!("payout {payout} has no cover: {reason:?}"),
-//!     Verdict::Refused(refusal) => panic!("{refusal:?}"),
-//! }
+//! let contract = contract(file);
+//! // Publish only where this holds, and file the covers with the verdicts.
+//! assert_eq!(contract.outcome, Outcome::Accepted);
+//! let covers = &contract.entries[0].covers;
+//! assert_eq!((covers[0].kind, covers[0].index), (Kind::EqualParameter, 0));
 //! ```
 //!
 //! Every function takes any bytes, keeps nothing, and may be called from any
 //! thread. What a refusal and a rejection mean is in docs/USING.md.
 
 mod c;
+mod contract;
 mod helpers;
 
+pub use contract::{contract, contract_into, Contract, Entry, Outcome, Records, RECORDS};
 pub use helpers::{
     bounded_by_backing, check_file, expr_eq, is_admitted_inflow_token, is_ledger_funding_token,
     is_reserve_token, reserve_bounding_payout,
@@ -99,6 +97,11 @@ pub fn verdict(file: &[u8], entry: usize, lent: &mut [u8]) -> Verdict {
             &mut second,
         )
     };
+    told(answer, first, second)
+}
+
+/// The verdict that the library tells by its numbers.
+fn told(answer: u8, first: usize, second: usize) -> Verdict {
     match answer {
         0 => Verdict::Accepted { payouts: first },
         1 => Verdict::Rejected {

@@ -13,20 +13,24 @@ const EACH_ENTRY: Measure = Measure {
     time: each_entry,
 };
 
-/// The proved listing, into a lent buffer: the questions about the file are
-/// asked once.
-const LISTING: Measure = Measure {
-    name: "listing",
-    time: listing,
+/// The proved verdicts on all entries by one call: the questions about the file
+/// are asked once.
+const CONTRACT: Measure = Measure {
+    name: "contract",
+    time: contract,
 };
 
 fn main() -> ExitCode {
-    bench::run(&[FROM_BYTES, READY_TREE, LISTING, EACH_ENTRY])
+    bench::run(&[FROM_BYTES, READY_TREE, CONTRACT, EACH_ENTRY])
 }
 
-fn listing(file: &[u8]) -> Duration {
-    let mut buffer = vec![0; zevdrak::LISTING];
-    repeated(|| zevdrak::listing_into(black_box(file), &mut buffer).len())
+fn contract(file: &[u8]) -> Duration {
+    let mut buffer = [0; zevdrak::RECORDS];
+    repeated(|| {
+        let (_, records) = zevdrak::contract_into(black_box(file), &mut buffer);
+        let accepted = |(verdict, _): &(_, _)| matches!(verdict, zevdrak::Verdict::Accepted { .. });
+        records.filter(accepted).count()
+    })
 }
 
 fn each_entry(file: &[u8]) -> Duration {

@@ -1,8 +1,8 @@
 -- Case by case.
 use borrow.Author.Needs.{needs}
 use Rattle.claim.specs.Verdict.{reason}
-use Rattle.export.proofs.number_of.Statement.{statement}
-use Rattle.export.proofs.number_of.Tie as tie
+use Rattle.contract.proofs.numbers.number_of.Statement.{statement}
+use Rattle.contract.proofs.numbers.number_of.Tie as tie
 
 pub number-of-spec : {M : Type 1} → statement M
 unfolding reason

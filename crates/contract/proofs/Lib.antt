@@ -1,0 +1,6 @@
+pub mod Told
+pub mod Writing
+pub mod Recording
+pub mod Enough
+pub mod Together
+pub mod Examples

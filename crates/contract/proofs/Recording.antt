@@ -1,0 +1,117 @@
+-- The records of the entries before the n-th are written, and the largest of what those are is known; without an n-th that is all.
+use Prim.Native.Nat.{ℕ, suc, _+_, _-_, _*_, _≤_}
+use mathlib.Core.Path.{_≡_, refl, sym, ap, _∙_}
+use mathlib.Core.Bool.{true, false, cond}
+use mathlib.Core.List.{List, flatMap}
+use native.Mathlib.Omega.{arith}
+use lib.Dec.{ltb}
+use lib.ListN.{length, take, drop}
+use Rattle.tags.specs.Tag.{Entry}
+use Rattle.fields.specs.Field.{fields, whole, after, from}
+use Rattle.model.specs.Model.{entries}
+use Rattle.model.specs.Shown.{shown}
+use Rattle.questions.specs.Questions.{passes, fails, askFile}
+use Rattle.questions.specs.Answers.{asked}
+use Rattle.questions.specs.declared.check.Answer.{Answer}
+use Rattle.questions.specs.declared.check.Answer.the-variants.{Passes, Refused}
+use Rattle.walking.specs.Table.{placedAt}
+use Rattle.tokens.specs.Fundings.{Fundings}
+use Rattle.reserves.specs.Holding.{Right}
+use Rattle.claim.specs.Verdict.{Verdict, refused, verdict, entryVerdict, written}
+use Rattle.verdict.specs.Coded.{placedVerdict}
+use Rattle.verdict.proofs.Asking.{entry-missing}
+use Rattle.verdict.proofs.Placing.{past-ninth}
+use Rattle.listing.specs.Output.{Written}
+use Rattle.listing.specs.Listing.{below}
+use Rattle.listing.proofs.Entries.{Entries, entries-none, entries-short, entries-table, entries-room, entries-same, entries-all, entries-on, nth-shown}
+use Rattle.contract.specs.Answer.{outcome, firstOf, secondOf}
+use Rattle.contract.specs.Records.{recorded, verdictOn, records, largest, outcomeOfAll}
+use Rattle.contract.specs.Coded.{NumbersOf}
+use Rattle.contract.specs.declared.records.Recorded.{Recorded}
+use Rattle.contract.proofs.Writing.{head, head-recorded}
+
+-- of a file that a question refuses
+module _ (file : List ℕ) (a : Answer) (e : asked a ≡ askFile file) (k p : ℕ) (f : a ≡ Refused k p) where
+  fails-so : askFile file ≡ fails k p
+  fails-so = sym e ∙ ap asked f
+
+  pub refused-outcome : 2 ≡ outcomeOfAll file
+  unfolding outcomeOfAll
+  refused-outcome = rw (outcomeOfAll, fails-so)
+
+  pub refused-records : (t u : List ℕ) (r : ℕ) → Written (head (record { outcome = 2; first = k; second = p })) t 0 u r → Written (records file) t 0 u r
+  unfolding records outcome firstOf secondOf
+  refused-records t u r w =
+      rw (records, fails-so) (head-recorded (refused k p) (record { outcome = 2; first = k; second = p }) (record { what = refl; one = refl; other = refl }) (λ z. omega (arith, z)) t 0 u r w)
+
+abbrev recordOn : List ℕ → ℕ → List ℕ
+recordOn file n = recorded (verdictOn file n)
+
+abbrev outcomeOn : List ℕ → ℕ → ℕ
+outcomeOn file n = outcome (verdictOn file n)
+
+-- t is the file from the entry of that number on
+pub record Recording (file lent before table u fundings : List ℕ) (count : ℕ) (known t : List ℕ) (worst m : ℕ) : Type 0 where
+  pub number : ℕ
+  pub written-so-far : Entries (recordOn file) file lent before table u fundings count known t number m
+  pub largest-so-far : worst ≡ largest (outcomeOn file) number
+
+module _ (file lent before : List ℕ) where
+  pub recording-none : askFile file ≡ passes → length file ≤ 3 * length lent → (fundings : List ℕ) (count : ℕ) → length fundings ≡ 1930 → Fundings file fundings count →
+      (known : List ℕ) → length known ≡ 2979 → Right file known → (t : List ℕ) → t ≡ from Entry Entry file → Recording file lent before lent before fundings count known t 0 0
+  unfolding largest
+  recording-none p r fundings count w f known l q t e =
+      record { number = 0; written-so-far = entries-none (recordOn file) file lent before p r fundings count w f known l q t e; largest-so-far = refl }
+
+  module _ (table u fundings : List ℕ) (count : ℕ) (known t : List ℕ) (worst m : ℕ) (i : Recording file lent before table u fundings count known t worst m) where
+    abbrev w : Entries (recordOn file) file lent before table u fundings count known t (i .number) m
+    w = i .written-so-far
+
+    shown-here : shown file t ≡ take 1 (drop (i .number) (entries (fields file)))
+    shown-here = nth-shown (recordOn file) file lent before table u fundings count known t (i .number) m w
+
+    pub recording-short : length file ≤ 32768
+    recording-short = entries-short (recordOn file) file lent before table u fundings count known t (i .number) m w
+
+    pub recording-table : length file ≤ 3 * length table
+    recording-table = entries-table (recordOn file) file lent before table u fundings count known t (i .number) m w
+
+    pub recording-room : m ≤ length u
+    recording-room = entries-room (recordOn file) file lent before table u fundings count known t (i .number) m w
+
+    pub recording-same : length u ≡ length before
+    recording-same = entries-same (recordOn file) file lent before table u fundings count known t (i .number) m w
+
+    pub recording-all : whole t ≡ false → Written (records file) before 0 u m
+    unfolding records
+    recording-all g =
+        let p : askFile file ≡ passes = w .passed in
+        rw (records, p) (entries-all (recordOn file) file lent before table u fundings count known t (i .number) m w g)
+
+    pub outcome-all : whole t ≡ false → worst ≡ outcomeOfAll file
+    unfolding outcomeOfAll
+    outcome-all g =
+        let p : askFile file ≡ passes = w .passed in
+        let e : i .number ≡ length (entries (fields file)) = omega (arith, w .counted, entry-missing file (i .number) t shown-here g) in
+        rw (outcomeOfAll, p, ← e) (i .largest-so-far)
+
+    module _ (g : whole t ≡ true) (place : ℕ) (f : place ≡ length file - length t) where
+      abbrev here : Verdict
+      here = placedVerdict (fields file) (placedAt file place) 192
+
+      verdict-here : verdictOn file (i .number) ≡ here
+      unfolding verdictOn verdict
+      verdict-here = let p : askFile file ≡ passes = w .passed in rw (verdictOn, verdict, p) (past-ninth file (i .number) t shown-here g place f 192)
+
+      pub recording-on : (o : ℕ) → o ≡ outcome here → (v : List ℕ) (r : ℕ) → Written (recorded here) u m v r → (x : ℕ) → x ≡ cond (ltb worst o) o worst →
+          (s next : List ℕ) → s ≡ after t → next ≡ from Entry Entry s → (last : List ℕ) → length last ≡ length table →
+          (calls : List ℕ) (k : ℕ) → length calls ≡ length fundings → Fundings file calls k → (held : List ℕ) → length held ≡ length known → Right file held →
+          Recording file lent before last v calls k held next x r
+      unfolding largest
+      recording-on o a v r b x c s next d e last same calls k same-calls h held same-held q =
+          let one : i .number + 1 ≡ suc (i .number) = omega arith in
+          record {
+            number = i .number + 1;
+            written-so-far = entries-on (recordOn file) file lent before table u fundings count known t (i .number) m w g v r (rw verdict-here b) s next d e last same calls k same-calls h held same-held q;
+            largest-so-far = rw (one, verdict-here, ← a, ← i .largest-so-far) c;
+          }

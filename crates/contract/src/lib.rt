@@ -1,0 +1,3 @@
+// The verdicts on all entries of a file at once.
+pub mod numbers;
+pub mod records;
