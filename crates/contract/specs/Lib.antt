@@ -1,3 +1,4 @@
 pub mod Answer
 pub mod Records
+pub mod Backed
 pub mod Coded

@@ -28,6 +28,7 @@ ghost use Rattle.listing.specs.Output.{Written};
 ghost use Rattle.listing.specs.Listing.{listing};
 ghost use Rattle.contract.specs.Answer.{outcome, firstOf, secondOf};
 ghost use Rattle.contract.specs.Records as contract;
+ghost use Rattle.contract.specs.Backed.{EachBacked};
 ghost use Rattle.export.specs.Refusal.{questionIn, placeIn};
 ghost use Rattle.export.specs.Token.{isTokenOf};
 ghost use Rattle.export.specs.Reserve.{reserveNumber};
@@ -58,11 +59,12 @@ pub extern "C" fn zevdrak_verdict(
 
 // The verdicts on all entries of a file: a record of bytes for each (Records in the specs of crates/contract), written into the
 // front of records as far as it has room, and how many bytes of it they take. The answer is 0 where each entry is accepted; else
-// the largest of what they are, or 2 where the file is refused.
+// the largest of what they are, or 2 where the file is refused. Demand 3 is `backed`, about the covers in the records.
 #[no_mangle]
 pub extern "C" fn zevdrak_contract(file: &[u8], records: &mut [u8], length: &mut usize) -> u8
     ensures answer { λ r. ⌜ r ≡ contract.outcomeOfAll (now (file .entry)) ⌝ }
     ensures records { λ r. ⌜ Written (contract.records (now (file .entry))) (now («records» .entry)) 0 (now («records» .exit)) (now («length» .exit)) ⌝ }
+    ensures backed { λ r. ⌜ EachBacked (now (file .entry)) ⌝ }
 {
     let recorded = write_records(file, records);
     *length = recorded.end;
