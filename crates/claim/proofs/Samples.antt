@@ -16,7 +16,8 @@ use Rattle.equality.specs.Equality.{strip, sameText, exprEq, partsEq}
 use Rattle.conditions.specs.Conditions.{splitAnd, splitEach, splitFirst, negated, negatedEach, negatedFirst, conditionsOf, requiredConditions, opposite, operator}
 use Rattle.bounds.specs.Bounds.{goesLeft, wrappingInside, boundedByBacking, leftBounded}
 use Rattle.tokens.specs.Tokens.{single, differ, besideInAsset, tokenNamed, tokensNamed, admittedInflowToken, isInflow, isCredit, isFunding, funds, ledgerFundingTokens, fundingToken}
-use Rattle.reserve_tokens.specs.ReserveTokens.{assigns, value, setsFrom, isZero, defaults, genesisValues, startsAtZero, raise, raises, credited, guardToken, guardTokens, only, debitToken, raiseToken, raiseTokens, reserveToken}
+use Rattle.raises.specs.Raises.{assigns, value, setsFrom, isZero, defaults, genesisValues, startsAtZero, raise, raises}
+use Rattle.reserve_tokens.specs.ReserveTokens.{credited, guardToken, guardTokens, only, debitToken, raiseToken, raiseTokens, reserveToken}
 use Rattle.reserves.specs.Reserves.{containsInflow, guardedField, guardedAmount, guardedBy, containsWrapping, loweredBy, lowers, reserveCovers, reserveBoundingPayout}
 use Rattle.reserves.specs.Payouts.{payoutToken, payoutAmount}
 use Rattle.matching.specs.Matching.{debitBackings, parameterBackings, backings, equals, bounds, takeBacking, takeReserve, byReserve, byBounding, notTaken, byEqual, answer, start}

@@ -6,6 +6,7 @@ pub mod Steps
 pub mod Places
 pub mod Parts
 pub mod Rows
+pub mod Tails
 pub mod Inside
 pub mod Prefix
 pub mod Encoding

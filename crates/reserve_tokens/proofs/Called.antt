@@ -25,7 +25,7 @@ use Rattle.walking.proofs.Callers.{body-few, body-read}
 use Rattle.equality.specs.Equality.{exprEq}
 use Rattle.tokens.specs.Tokens.{isCredit}
 use Rattle.reserve_tokens.specs.ReserveTokens.{credited}
-use Rattle.reserve_tokens.specs.Raising.{CallsOf, withAmount, firstOf, debitOf}
+use Rattle.reserve_tokens.specs.Reserving.{CallsOf, withAmount, firstOf, debitOf}
 use Rattle.reserve_tokens.proofs.AtPlaces.{fieldAt, fields-any}
 
 -- a call takes three bytes at least

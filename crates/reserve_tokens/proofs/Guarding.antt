@@ -17,7 +17,7 @@ use Rattle.walking.specs.Walking.{guards}
 use Rattle.tokens.specs.Fundings.{tokenOf, joined}
 use Rattle.tokens.proofs.Joining.{token-none, joined-empty, joined-first}
 use Rattle.reserve_tokens.specs.ReserveTokens.{guardToken, guardTokens, only}
-use Rattle.reserve_tokens.specs.Raising.{Named}
+use Rattle.reserve_tokens.specs.Reserving.{Named}
 
 -- the only token among the one found so far and those that are left
 unfoldable pub onlyOf : List ℕ → List (List ℕ) → List ℕ

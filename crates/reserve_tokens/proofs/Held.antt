@@ -14,7 +14,7 @@ use Rattle.tokens.specs.Tokens.{single, differ}
 use Rattle.tokens.specs.Fundings.{tokenOf}
 use Rattle.tokens.proofs.Agreeing.{unknown, is-known}
 use Rattle.tokens.proofs.Joining.{token-none, token-inside}
-use Rattle.reserve_tokens.specs.Raising.{Found, bars}
+use Rattle.reserve_tokens.specs.Reserving.{Found, bars}
 
 -- the one token among the one found so far, where there is one, and those that are left: here an unknown one counts
 unfoldable pub held : List ℕ → List (List ℕ) → List ℕ

@@ -1,5 +1,3 @@
-pub mod Passing
-pub mod Zeros
 pub mod Guarding
 pub mod AtPlaces
 pub mod Called

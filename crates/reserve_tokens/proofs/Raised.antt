@@ -1,14 +1,14 @@
--- The raises of an entry are the statements that raise the field, and the token of each is that of a debit's map or of a guard.
+-- The token of a raise is that of a debit's map or of a guard, and those of all raises are found entry by entry, statement by
+-- statement.
 use Prim.Native.Nat.{ℕ}
 use mathlib.Core.Path.{_≡_, refl, sym, ap}
-use mathlib.Core.Bool.{Bool, true, false, cond, not, _&&_, _||_}
+use mathlib.Core.Bool.{Bool, true, false, cond, _&&_}
 use mathlib.Core.List.{List, [], _∷_, _++_, map, flatMap}
 use mathlib.Core.Option.{none, some}
 use native.Mathlib.Omega.{arith}
 use borrow.Author.Tests.{eqb-true}
-use lib.Dec.{eqb}
 use Rattle.fields.specs.Lists.{any, filter, find}
-use Rattle.tags.specs.Tag.{Entry, SubtractFrom, Call, Add, Sub}
+use Rattle.tags.specs.Tag.{Entry, Call}
 use Rattle.fields.specs.Field.{Field, Fields, tag, part, nothing, nth, fieldsFrom}
 use Rattle.fields.proofs.Rows.{placed-row}
 use Rattle.model.specs.Model.{body, entries}
@@ -18,37 +18,12 @@ use Rattle.equality.specs.Equality.{exprEq}
 use Rattle.tokens.specs.Tokens.{isInflow, fundingToken}
 use Rattle.tokens.specs.Fundings.{tokenOf}
 use Rattle.tokens.proofs.Joining.{token-none}
-use Rattle.reserve_tokens.specs.ReserveTokens.{assigns, value, setsFrom, raise, raises, credited, guardTokens, only, debitToken, raiseToken, raiseTokens}
-use Rattle.reserve_tokens.specs.Raising.{isRaise, raisedBy, raising, withAmount, firstOf, debitOf, raiseDebit, inflowNumber, tokenOr}
+use Rattle.raises.specs.Raises.{raises}
+use Rattle.raises.specs.Raising.{isRaise, raisedBy, raising}
+use Rattle.raises.proofs.Statements.{raises-chosen}
+use Rattle.reserve_tokens.specs.ReserveTokens.{credited, guardTokens, only, debitToken, raiseToken, raiseTokens}
+use Rattle.reserve_tokens.specs.Reserving.{withAmount, firstOf, debitOf, raiseDebit, inflowNumber, tokenOr}
 use Rattle.reserve_tokens.proofs.Called.{amount-call}
-
--- Raises
-
-module _ (r : List ℕ) where
-  one-raise : (s : Field) → raise r s ≡ cond (not (eqb (tag s) SubtractFrom || setsFrom Sub r s)) (raisedBy r s ∷ []) []
-  unfolding raise raisedBy
-  one-raise s = go (eqb (tag s) SubtractFrom || setsFrom Sub r s) (setsFrom Add r s)
-    where
-      go : (j k : Bool) → cond j [] (cond k (peel (part 1 (value s)) ∷ []) (value s ∷ [])) ≡ cond (not j) (cond k (peel (part 1 (value s))) (value s) ∷ []) []
-      go true k = refl
-      go false true = refl
-      go false false = refl
-
-  raise-each : (l : List Field) → flatMap (raise r) (filter (assigns r) l) ≡ map (raisedBy r) (filter (isRaise r) l)
-  unfolding flatMap filter isRaise
-  raise-each [] = refl
-  raise-each (s ∷ l) = go (assigns r s) (not (eqb (tag s) SubtractFrom || setsFrom Sub r s)) (one-raise s) (raise-each l)
-    where
-      go : (j k : Bool) → raise r s ≡ cond k (raisedBy r s ∷ []) [] → flatMap (raise r) (filter (assigns r) l) ≡ map (raisedBy r) (filter (isRaise r) l) →
-          flatMap (raise r) (cond j (s ∷ filter (assigns r) l) (filter (assigns r) l))
-          ≡ map (raisedBy r) (cond (j && k) (s ∷ filter (isRaise r) l) (filter (isRaise r) l))
-      go true true d e = rw (d, e)
-      go true false d e = rw (d, e)
-      go false k d e = e
-
-  raises-chosen : (entry : Field) → raises r entry ≡ map (raisedBy r) (filter (isRaise r) (body entry))
-  unfolding raises
-  raises-chosen entry = raise-each (body entry)
 
 -- The token of a raise
 

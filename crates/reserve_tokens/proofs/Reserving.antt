@@ -16,9 +16,10 @@ use Rattle.walking.specs.Walking.{present, receiver, bodyExprs}
 use Rattle.walking.specs.Table.{placedAt, placesOf}
 use Rattle.tokens.specs.Tokens.{single, isInflow}
 use Rattle.tokens.specs.Fundings.{Fundings, Standing, tokenOf}
-use Rattle.tokens.proofs.Tails.{tail-after}
+use Rattle.fields.proofs.Tails.{tail-after}
+use Rattle.raises.specs.Raising.{isRaise, raisedBy, raising, raisesFrom, raisingFrom}
 use Rattle.reserve_tokens.specs.ReserveTokens.{guardTokens, only, raiseToken, raiseTokens}
-use Rattle.reserve_tokens.specs.Raising.{CallsOf, Found, nameless, isRaise, raisedBy, raising, raisesFrom, raisingFrom, raiseDebit, inflowNumber, tokenOr, bars, remembered}
+use Rattle.reserve_tokens.specs.Reserving.{CallsOf, Found, nameless, raiseDebit, inflowNumber, tokenOr, bars, remembered}
 use Rattle.reserve_tokens.proofs.Called.{calls-listed}
 use Rattle.reserve_tokens.proofs.Held.{held, held-alone, held-none, held-barred, held-on, not-barred, token-none-of, found-none, found-known}
 use Rattle.reserve_tokens.proofs.Raised.{raise-token-is, raise-none, tokensIn, raise-tokens}

@@ -1,2 +1,2 @@
 pub mod ReserveTokens
-pub mod Raising
+pub mod Reserving

@@ -12,7 +12,7 @@ ghost use Rattle.fields.specs.Field.{front};
 ghost use Rattle.walking.specs.Walking.{isDebit};
 ghost use Rattle.tokens.specs.Tokens.{isCredit};
 ghost use Rattle.reserve_tokens.specs.ReserveTokens.{credited};
-ghost use Rattle.reserve_tokens.specs.Raising.{CallsOf, withAmount, debitOf};
+ghost use Rattle.reserve_tokens.specs.Reserving.{CallsOf, withAmount, debitOf};
 
 // Whether the call at the front of s is a credit, set or insert whose second argument, peeled, is the amount. The amount is
 // compared first: that takes less time than to read the shape of a call, and few calls have it.

@@ -17,7 +17,7 @@ ghost use lib.ListN.{length, drop};
 ghost use Rattle.fields.specs.Field.{front, part};
 ghost use Rattle.tokens.specs.Fundings.{tokenOf, Standing};
 ghost use Rattle.reserve_tokens.specs.ReserveTokens.{guardToken, guardTokens, only};
-ghost use Rattle.reserve_tokens.specs.Raising.{Named};
+ghost use Rattle.reserve_tokens.specs.Reserving.{Named};
 
 // The number of the token of the guard at a place of the file, where its expression is as a whole, peeled, Eq of in-asset and
 // an identifier; else 0. The expression stands behind the guard's three-byte head.

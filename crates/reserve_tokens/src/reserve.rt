@@ -4,15 +4,15 @@
 use super::calls::first_debit;
 use super::calls::is_credited;
 use super::guard::only_guard_number;
-use super::raise::first_raise;
-use super::raise::first_raising;
-use super::raise::next_raise;
-use super::raise::raised_by;
-use super::zero::starts_at_zero;
 use fields::bytes::same_bytes;
 use fields::front::after_front;
 use fields::front::is_whole;
 use fields::front::parts_of;
+use raises::raise::first_raise;
+use raises::raise::first_raising;
+use raises::raise::next_raise;
+use raises::raise::raised_by;
+use raises::zero::starts_at_zero;
 use tags::CALL;
 use tokens::ledger::funding_number;
 use tokens::number::token_of;
@@ -29,7 +29,7 @@ ghost use Rattle.fields.specs.Field.{fields, front};
 ghost use Rattle.tokens.specs.Tokens.{single, isInflow, fundingToken};
 ghost use Rattle.tokens.specs.Fundings.{Fundings, tokenOf};
 ghost use Rattle.reserve_tokens.specs.ReserveTokens.{raiseTokens, reserveToken};
-ghost use Rattle.reserve_tokens.specs.Raising.{CallsOf, Found, nameless, raiseDebit, inflowNumber, tokenOr, bars, remembered};
+ghost use Rattle.reserve_tokens.specs.Reserving.{CallsOf, Found, nameless, raiseDebit, inflowNumber, tokenOr, bars, remembered};
 
 // Whether an asset parameter of the entry has no name.
 fn has_unnamed(entry: &[u8]) -> bool

@@ -24,7 +24,7 @@ use Rattle.walking.specs.Walking.{peel, peelFirst}
 use Rattle.walking.specs.Table.{placedAt}
 use Rattle.equality.specs.Equality.{exprEq}
 use Rattle.equality.proofs.Equality.{nothing-right}
-use Rattle.reserve_tokens.specs.ReserveTokens.{assigns}
+use Rattle.raises.specs.Raises.{assigns}
 use Rattle.reserves.specs.Reserves.{guardedField, guardedAmount, containsWrapping, loweredBy, lowers}
 use Rattle.reserves.specs.Asked.{askedAmounts}
 use Rattle.reserves.specs.Candidates.{counts, stateIndex, numbersAt, candidateNumbers, Candidates}

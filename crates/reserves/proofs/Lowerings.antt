@@ -29,7 +29,7 @@ use Rattle.walking.specs.Walking.{peel, peelFirst, ident}
 use Rattle.walking.specs.Table.{placedAt}
 use Rattle.equality.specs.Equality.{exprEq}
 use Rattle.equality.proofs.Equality.{expr-symmetric, nothing-left}
-use Rattle.reserve_tokens.specs.ReserveTokens.{assigns, value, setsFrom}
+use Rattle.raises.specs.Raises.{assigns, value, setsFrom}
 use Rattle.reserves.specs.Reserves.{guardedField, guardedAmount, containsWrapping, loweredBy, lowers}
 use Rattle.reserves.specs.Candidates.{counts, numbersAt, candidateNumbers}
 use Rattle.reserves.specs.Lowerings.{isLowering, lowerings, mayLower, loweringAt, loweringPlaces, fieldsAt, LoweringsOf}

@@ -10,7 +10,7 @@ use Rattle.fields.specs.Field.{Field, Placed, front, tag, parts, part, placed}
 use Rattle.model.specs.Model.{body}
 use Rattle.walking.specs.Walking.{ident}
 use Rattle.equality.specs.Equality.{exprEq}
-use Rattle.reserve_tokens.specs.ReserveTokens.{assigns}
+use Rattle.raises.specs.Raises.{assigns}
 use Rattle.reserves.specs.Reserves.{containsWrapping, loweredBy}
 
 -- an assignment lowers its own target by one of the amounts, and no Wrapping stands anywhere in its value

@@ -11,7 +11,8 @@ use Rattle.model.specs.Model.{stateNames, body}
 use Rattle.walking.specs.Walking.{peel, walk, withoutPlaces, guards, ident}
 use Rattle.equality.specs.Equality.{exprEq}
 use Rattle.tokens.specs.Tokens.{isInflow}
-use Rattle.reserve_tokens.specs.ReserveTokens.{assigns, value, setsFrom, reserveToken}
+use Rattle.raises.specs.Raises.{assigns, value, setsFrom}
+use Rattle.reserve_tokens.specs.ReserveTokens.{reserveToken}
 
 -- Guards and assignments
 

@@ -18,7 +18,7 @@ use Rattle.walking.specs.Walking.{bodyExprs}
 use Rattle.walking.specs.Table.{placedAt}
 use Rattle.walking.proofs.Within.{within-length, body-within}
 use Rattle.tokens.specs.Fundings.{tokensNumber, isFundingCall, numbersOf, fundingsOf, fundings, Fundings, Standing}
-use Rattle.tokens.proofs.Tails.{tail-first, tail-next}
+use Rattle.fields.proofs.Tails.{tail-first, tail-next}
 
 -- How many there are
 

@@ -16,7 +16,7 @@ use Rattle.conditions.specs.Conditions.{requiredConditions}
 use Rattle.tokens.specs.Tokens.{tokensNamed, funds, ledgerFundingTokens, fundingToken}
 use Rattle.tokens.specs.Agreed.{fundingFrom}
 use Rattle.tokens.specs.Fundings.{tokenOf, joinedAll, conditionNumber, Standing}
-use Rattle.tokens.proofs.Tails.{tail-after}
+use Rattle.fields.proofs.Tails.{tail-after}
 use Rattle.tokens.proofs.Joining.{Means, means-token, means-small, means-several}
 use Rattle.tokens.proofs.Numbers.{entry-joined}
 

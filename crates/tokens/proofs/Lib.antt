@@ -1,6 +1,5 @@
 pub mod Agreeing
 pub mod Funded
-pub mod Tails
 pub mod Funders
 pub mod Examples
 pub mod Shown

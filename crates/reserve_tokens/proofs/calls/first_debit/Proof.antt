@@ -4,7 +4,7 @@ use native.Mathlib.Omega.{arith}
 use borrow.Author.Needs.{needs}
 use Rattle.fields.specs.Field.{front}
 use Rattle.walking.specs.Walking.{isDebit}
-use Rattle.reserve_tokens.specs.Raising.{withAmount, debitOf}
+use Rattle.reserve_tokens.specs.Reserving.{withAmount, debitOf}
 use Rattle.reserve_tokens.proofs.Called.{Picking, debit-first, picking-none, picking-found, picking-on}
 use Rattle.reserve_tokens.proofs.calls.first_debit.Statement.{statement}
 use Rattle.reserve_tokens.proofs.calls.first_debit.Tie as tie

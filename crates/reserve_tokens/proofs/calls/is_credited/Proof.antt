@@ -6,7 +6,7 @@ use Rattle.fields.specs.Field.{front}
 use Rattle.fields.proofs.Seeking.{Seeking, seeking-none}
 use Rattle.tokens.specs.Tokens.{isCredit}
 use Rattle.reserve_tokens.specs.ReserveTokens.{credited}
-use Rattle.reserve_tokens.specs.Raising.{withAmount}
+use Rattle.reserve_tokens.specs.Reserving.{withAmount}
 use Rattle.reserve_tokens.proofs.AtPlaces.{fieldAt, field-found, field-on}
 use Rattle.reserve_tokens.proofs.Called.{credited-any}
 use Rattle.reserve_tokens.proofs.calls.is_credited.Statement.{statement}

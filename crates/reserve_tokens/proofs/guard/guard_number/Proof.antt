@@ -18,9 +18,9 @@ use Rattle.tokens.specs.Tokens.{besideInAsset}
 use Rattle.tokens.specs.Fundings.{tokenOf}
 use Rattle.tokens.proofs.Agreeing.{is-known}
 use Rattle.tokens.proofs.Joining.{token-none, token-there}
-use Rattle.tokens.proofs.Tails.{tail-of}
+use Rattle.fields.proofs.Tails.{tail-of}
 use Rattle.reserve_tokens.specs.ReserveTokens.{guardToken}
-use Rattle.reserve_tokens.specs.Raising.{Named}
+use Rattle.reserve_tokens.specs.Reserving.{Named}
 use Rattle.reserve_tokens.proofs.Guarding.{none-named}
 use Rattle.reserve_tokens.proofs.guard.guard_number.Statement.{statement}
 use Rattle.reserve_tokens.proofs.guard.guard_number.Tie as tie

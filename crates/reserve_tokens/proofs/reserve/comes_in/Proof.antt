@@ -10,7 +10,7 @@ use Rattle.fields.specs.Field.{Field}
 use Rattle.fields.proofs.Places.{no-bytes}
 use Rattle.walking.specs.Walking.{assetAmountBacker, assetParams}
 use Rattle.tokens.specs.Tokens.{isInflow}
-use Rattle.reserve_tokens.specs.Raising.{nameless}
+use Rattle.reserve_tokens.specs.Reserving.{nameless}
 use Rattle.reserve_tokens.proofs.reserve.comes_in.Statement.{statement}
 use Rattle.reserve_tokens.proofs.reserve.comes_in.Tie as tie
 

@@ -1,6 +1,6 @@
 -- The empty name is looked for among the asset parameters.
 use borrow.Author.Needs.{needs}
-use Rattle.reserve_tokens.specs.Raising.{nameless}
+use Rattle.reserve_tokens.specs.Reserving.{nameless}
 use Rattle.reserve_tokens.proofs.reserve.has_unnamed.Statement.{statement}
 use Rattle.reserve_tokens.proofs.reserve.has_unnamed.Tie as tie
 

@@ -6,7 +6,7 @@ use borrow.Author.Needs.{needs}
 use borrow.Author.Tests.{not-true, not-false}
 use Rattle.fields.specs.Field.{Field}
 use Rattle.reserve_tokens.specs.ReserveTokens.{credited}
-use Rattle.reserve_tokens.specs.Raising.{inflowNumber}
+use Rattle.reserve_tokens.specs.Reserving.{inflowNumber}
 use Rattle.reserve_tokens.proofs.reserve.inflow_number.Statement.{statement}
 use Rattle.reserve_tokens.proofs.reserve.inflow_number.Tie as tie
 

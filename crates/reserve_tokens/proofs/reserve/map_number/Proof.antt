@@ -15,7 +15,7 @@ use Rattle.fields.proofs.Texts.{bytes-equal}
 use Rattle.tokens.specs.Tokens.{fundingToken}
 use Rattle.tokens.specs.Fundings.{tokenOf}
 use Rattle.tokens.proofs.Agreeing.{is-known}
-use Rattle.reserve_tokens.specs.Raising.{remembered}
+use Rattle.reserve_tokens.specs.Reserving.{remembered}
 use Rattle.reserve_tokens.proofs.reserve.map_number.Statement.{statement}
 use Rattle.reserve_tokens.proofs.reserve.map_number.Tie as tie
 

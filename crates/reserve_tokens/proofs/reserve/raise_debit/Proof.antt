@@ -6,7 +6,7 @@ use mathlib.Core.List.{List, []}
 use borrow.Author.Needs.{needs}
 use Rattle.fields.specs.Field.{Field, front}
 use Rattle.fields.proofs.Reading.{front-none}
-use Rattle.reserve_tokens.specs.Raising.{debitOf, raiseDebit}
+use Rattle.reserve_tokens.specs.Reserving.{debitOf, raiseDebit}
 use Rattle.reserve_tokens.proofs.reserve.raise_debit.Statement.{statement}
 use Rattle.reserve_tokens.proofs.reserve.raise_debit.Tie as tie
 

@@ -9,7 +9,7 @@ use Rattle.fields.specs.Field.{Field, fields}
 use Rattle.walking.specs.Walking.{present, receiver}
 use Rattle.tokens.specs.Tokens.{fundingToken}
 use Rattle.tokens.specs.Fundings.{tokenOf}
-use Rattle.reserve_tokens.specs.Raising.{tokenOr}
+use Rattle.reserve_tokens.specs.Reserving.{tokenOr}
 use Rattle.reserve_tokens.proofs.reserve.raise_number.Statement.{statement}
 use Rattle.reserve_tokens.proofs.reserve.raise_number.Tie as tie
 

@@ -8,7 +8,8 @@ use borrow.Author.Tests.{not-true, not-false}
 use Rattle.fields.specs.Field.{fields}
 use Rattle.tokens.specs.Tokens.{single}
 use Rattle.tokens.specs.Fundings.{tokenOf}
-use Rattle.reserve_tokens.specs.ReserveTokens.{startsAtZero, raiseTokens, reserveToken}
+use Rattle.raises.specs.Raises.{startsAtZero}
+use Rattle.reserve_tokens.specs.ReserveTokens.{raiseTokens, reserveToken}
 use Rattle.reserve_tokens.proofs.Held.{token-none-of}
 use Rattle.reserve_tokens.proofs.reserve.reserve_number.Statement.{statement}
 use Rattle.reserve_tokens.proofs.reserve.reserve_number.Tie as tie

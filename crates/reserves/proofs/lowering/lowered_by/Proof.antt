@@ -8,7 +8,7 @@ use borrow.Author.Tests.{eq-eqb, ne-eqb}
 use Rattle.fields.specs.Field.{Field, front, tag, part}
 use Rattle.fields.proofs.Reading.{front-none}
 use Rattle.walking.specs.Walking.{peel}
-use Rattle.reserve_tokens.specs.ReserveTokens.{value, setsFrom}
+use Rattle.raises.specs.Raises.{value, setsFrom}
 use Rattle.reserves.specs.Reserves.{loweredBy}
 use Rattle.reserves.proofs.lowering.lowered_by.Statement.{statement}
 use Rattle.reserves.proofs.lowering.lowered_by.Tie as tie

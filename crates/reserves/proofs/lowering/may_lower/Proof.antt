@@ -7,7 +7,7 @@ use borrow.Author.Needs.{needs}
 use borrow.Author.Tests.{not-true, not-false}
 use Rattle.fields.specs.Field.{Field, front}
 use Rattle.equality.specs.Equality.{exprEq}
-use Rattle.reserve_tokens.specs.ReserveTokens.{assigns}
+use Rattle.raises.specs.Raises.{assigns}
 use Rattle.reserves.specs.Reserves.{loweredBy}
 use Rattle.reserves.specs.Lowerings.{mayLower}
 use Rattle.reserves.proofs.lowering.may_lower.Statement.{statement}

@@ -8,7 +8,7 @@ use Rattle.fields.proofs.Told.{told-is}
 use Rattle.fields.proofs.Rows.{from-less}
 use Rattle.fields.proofs.Choosing.{Choosing, choosing-first, choosing-none, choosing-here, choosing-on}
 use Rattle.tokens.specs.Tokens.{funds}
-use Rattle.tokens.proofs.Tails.{tail-first, tail-next}
+use Rattle.fields.proofs.Tails.{tail-first, tail-next}
 use Rattle.tokens.proofs.funding.first_funding.Statement.{statement}
 use Rattle.tokens.proofs.funding.first_funding.Tie as tie
 

@@ -1,0 +1,4 @@
+pub mod Passing
+pub mod Zeros
+pub mod Statements
+pub mod Examples
