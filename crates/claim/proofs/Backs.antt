@@ -18,7 +18,8 @@ use Rattle.fields.proofs.Texts.{bytes-equal}
 use Rattle.model.specs.Model.{stateNames}
 use Rattle.walking.specs.Walking.{peel, receiver, debits, assetParams}
 use Rattle.equality.specs.Amount.{amountOf}
-use Rattle.tokens.specs.Tokens.{fundingToken, admittedInflowToken}
+use Rattle.tokens.specs.Tokens.{admittedInflowToken}
+use Rattle.fundings.specs.FundingTokens.{fundingToken}
 use Rattle.reserves.specs.Reserves.{reserveCovers, reserveBoundingPayout}
 use Rattle.reserves.specs.Payouts.{payoutToken, payoutAmount}
 use Rattle.matching.specs.Matching.{Cover, Source, Backing, Marks, debit, parameter, debitBackings, parameterBackings, backings, equals, bounds, equalCover, boundingCover}

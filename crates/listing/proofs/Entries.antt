@@ -17,7 +17,7 @@ use Rattle.model.specs.Shown.{shown}
 use Rattle.model.proofs.Accessors.{shown-nth}
 use Rattle.questions.specs.declared.check.Answer.{Answer}
 use Rattle.questions.specs.declared.check.Answer.the-variants.{Passes, Refused}
-use Rattle.tokens.specs.Fundings.{Fundings}
+use Rattle.fundings.specs.Fundings.{Fundings}
 use Rattle.reserves.specs.Holding.{Right}
 use Rattle.claim.proofs.Fitting.{short-file}
 use Rattle.verdict.proofs.Asking.{entry-missing, entry-counted}

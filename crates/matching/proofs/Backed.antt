@@ -14,7 +14,8 @@ use Rattle.fields.specs.Lists.{numbered}
 use Rattle.fields.specs.Field.{Field, Fields, fields, front, part, nothing}
 use Rattle.walking.specs.Walking.{peel, receiver, assetParams, debits}
 use Rattle.equality.specs.Amount.{amountOf}
-use Rattle.tokens.specs.Tokens.{admittedInflowToken, fundingToken}
+use Rattle.tokens.specs.Tokens.{admittedInflowToken}
+use Rattle.fundings.specs.FundingTokens.{fundingToken}
 use Rattle.matching.specs.Matching.{Backing, debitBackings, parameterBackings, backings}
 use Rattle.matching.specs.Matching.Source.{debit, parameter}
 use Rattle.matching.specs.Tables.{Tabled, entryOf, backingsOf, debitAt, amountAt, tokenAt, backingAt}

@@ -13,7 +13,8 @@ use Rattle.walking.specs.Walking.{peel, peelFirst, walk, walkParts, stmtExprs, 
 use Rattle.equality.specs.Equality.{strip, sameText, exprEq, partsEq}
 use Rattle.conditions.specs.Conditions.{splitAnd, splitEach, splitFirst, negated, negatedEach, negatedFirst, conditionsOf, requiredConditions, opposite, operator}
 use Rattle.bounds.specs.Bounds.{goesLeft, wrappingInside, boundedByBacking, leftBounded}
-use Rattle.tokens.specs.Tokens.{single, differ, besideInAsset, tokenNamed, tokensNamed, admittedInflowToken, isInflow, isCredit, isFunding, funds, ledgerFundingTokens, fundingToken}
+use Rattle.tokens.specs.Tokens.{single, differ, besideInAsset, tokenNamed, tokensNamed, admittedInflowToken, isInflow, isCredit, isFunding}
+use Rattle.fundings.specs.FundingTokens.{funds, ledgerFundingTokens, fundingToken}
 use Rattle.raises.specs.Raises.{assigns, value, setsFrom, isZero, defaults, genesisValues, startsAtZero, raise, raises}
 use Rattle.reserve_tokens.specs.ReserveTokens.{credited, guardToken, guardTokens, only, debitToken, raiseToken, raiseTokens, reserveToken}
 use Rattle.reserves.specs.Reserves.{containsInflow, guardedField, guardedAmount, guardedBy, containsWrapping, loweredBy, lowers, reserveCovers, reserveBoundingPayout}

@@ -12,9 +12,10 @@ use Rattle.model.specs.Model.{nameOf}
 use Rattle.walking.specs.Walking.{peel, receiver, assetParams}
 use Rattle.bounds.specs.Backing.{backingField}
 use Rattle.walking.specs.Table.{placedAt}
-use Rattle.tokens.specs.Tokens.{admittedInflowToken, fundingToken}
-use Rattle.tokens.specs.Fundings.{tokenOf, tokensNumber}
+use Rattle.tokens.specs.Tokens.{admittedInflowToken}
+use Rattle.tokens.specs.Numbers.{tokenOf, tokensNumber}
 use Rattle.tokens.proofs.Numbers.{number-token}
+use Rattle.fundings.specs.FundingTokens.{fundingToken}
 use Rattle.matching.specs.Tables.{Named, Admitted, entryOf, amountAt, tokenAt}
 
 -- a backing by number

@@ -11,7 +11,8 @@ use Rattle.walking.specs.Walking.{peel, present, receiver, assetParams, debits}
 use Rattle.equality.specs.Equality.{exprEq}
 use Rattle.equality.specs.Amount.{amountOf}
 use Rattle.bounds.specs.Bounds.{boundedByBacking}
-use Rattle.tokens.specs.Tokens.{admittedInflowToken, fundingToken, differ}
+use Rattle.tokens.specs.Tokens.{admittedInflowToken, differ}
+use Rattle.fundings.specs.FundingTokens.{fundingToken}
 use Rattle.reserves.specs.Reserves.{reserveBoundingPayout}
 use Rattle.reserves.specs.Payouts.{payoutToken, payoutAmount}
 

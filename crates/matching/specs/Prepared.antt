@@ -5,7 +5,7 @@ use mathlib.Core.Path.{_≡_}
 use mathlib.Core.List.{List}
 use lib.ListN.{getD, drop}
 use Rattle.fields.specs.Field.{front}
-use Rattle.tokens.specs.Fundings.{Fundings}
+use Rattle.fundings.specs.Fundings.{Fundings}
 use Rattle.reserves.specs.Candidates.{Candidates}
 use Rattle.reserves.specs.Holding.{Right}
 use Rattle.matching.specs.Tables.{Tabled}

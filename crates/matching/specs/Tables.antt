@@ -12,8 +12,9 @@ use Rattle.walking.specs.Walking.{peel, receiver, assetParams, debits}
 use Rattle.equality.specs.Equality.{exprEq}
 use Rattle.equality.specs.Amount.{amountOf}
 use Rattle.bounds.specs.Bounds.{boundedByBacking}
-use Rattle.tokens.specs.Tokens.{admittedInflowToken, fundingToken}
-use Rattle.tokens.specs.Fundings.{tokenOf}
+use Rattle.tokens.specs.Tokens.{admittedInflowToken}
+use Rattle.tokens.specs.Numbers.{tokenOf}
+use Rattle.fundings.specs.FundingTokens.{fundingToken}
 use Rattle.matching.specs.Matching.{Backing, backings}
 use Rattle.matching.specs.Matching.Source.{debit, parameter}
 use Rattle.matching.specs.Numbers.{markIs}

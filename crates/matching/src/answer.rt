@@ -16,7 +16,7 @@ ghost use Prim.Native.Nat.{_+_, _≤_, _<_};
 ghost use lib.ListN.{drop};
 ghost use Rattle.fields.specs.Lists.{any};
 ghost use Rattle.fields.specs.Field.{fields, front};
-ghost use Rattle.tokens.specs.Fundings.{Fundings};
+ghost use Rattle.fundings.specs.Fundings.{Fundings};
 ghost use Rattle.reserves.specs.Holding.{Right};
 ghost use Rattle.matching.specs.Matching.{byReserve, answer};
 ghost use Rattle.matching.specs.Tables.{Tabled, Admitted, entryOf, backingsOf};

@@ -7,7 +7,7 @@ use lib.ListN.{length, getD, take, drop}
 use Rattle.fields.specs.Lists.{any}
 use Rattle.fields.specs.Field.{Field, front}
 use Rattle.fields.proofs.Seeking.{Seeking, seeking-all, seeking-found, seeking-on}
-use Rattle.tokens.proofs.Funded.{any-mapped}
+use Rattle.fundings.proofs.Funded.{any-mapped}
 
 -- whether the field at a place of s passes
 unfoldable pub fieldAt : (Field → Bool) → List ℕ → ℕ → Bool

@@ -11,7 +11,8 @@ use Rattle.model.specs.Model.{genesis, entries, params, body}
 use Rattle.walking.specs.Walking.{peel, peelFirst, walk, walkParts, stmtExprs, bodyExprs, exprs, guards, ident, method, receiver, isDebit, assetAmountBacker, isAssetParameter, assetParams, debits}
 use Rattle.equality.specs.Equality.{exprEq, partsEq, strip, sameText}
 use Rattle.conditions.specs.Conditions.{splitAnd, splitEach, splitFirst, negated, negatedEach, negatedFirst, conditionsOf, requiredConditions, opposite, operator}
-use Rattle.tokens.specs.Tokens.{single, besideInAsset, tokenNamed, tokensNamed, isInflow, isCredit, isFunding, funds, ledgerFundingTokens, fundingToken}
+use Rattle.tokens.specs.Tokens.{single, besideInAsset, tokenNamed, tokensNamed, isInflow, isCredit, isFunding}
+use Rattle.fundings.specs.FundingTokens.{funds, ledgerFundingTokens, fundingToken}
 use Rattle.raises.specs.Raises.{assigns, value, setsFrom, isZero, defaults, genesisValues, startsAtZero, raise, raises}
 use Rattle.reserve_tokens.specs.ReserveTokens.{credited, guardToken, guardTokens, only, debitToken, raiseToken, raiseTokens, reserveToken}
 

@@ -14,7 +14,7 @@ use Rattle.fields.proofs.Lists.{Every, every-filter}
 use Rattle.fields.proofs.Inside.{Stands, parts-stand}
 use Rattle.fields.proofs.Rows.{ahead, from-row, from-shorter, from-less, restOf, from-placed, rest-next}
 use Rattle.walking.specs.Walking.{guards}
-use Rattle.tokens.specs.Fundings.{tokenOf, joined}
+use Rattle.tokens.specs.Numbers.{tokenOf, joined}
 use Rattle.tokens.proofs.Joining.{token-none, joined-empty, joined-first}
 use Rattle.reserve_tokens.specs.ReserveTokens.{guardToken, guardTokens, only}
 use Rattle.reserve_tokens.specs.Reserving.{Named}

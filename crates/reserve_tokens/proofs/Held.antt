@@ -11,7 +11,7 @@ use lib.ListN.{length}
 use Rattle.fields.specs.Lists.{all, known, sameBytes}
 use Rattle.fields.proofs.Texts.{bytes-equal, bytes-same}
 use Rattle.tokens.specs.Tokens.{single, differ}
-use Rattle.tokens.specs.Fundings.{tokenOf}
+use Rattle.tokens.specs.Numbers.{tokenOf}
 use Rattle.tokens.proofs.Agreeing.{unknown, is-known}
 use Rattle.tokens.proofs.Joining.{token-none, token-inside}
 use Rattle.reserve_tokens.specs.Reserving.{Found, bars}

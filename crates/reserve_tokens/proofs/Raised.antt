@@ -15,9 +15,10 @@ use Rattle.model.specs.Model.{body, entries}
 use Rattle.walking.specs.Walking.{peel, present, receiver, ident, isDebit, debits, exprs}
 use Rattle.walking.proofs.Calls.{debit-call}
 use Rattle.equality.specs.Equality.{exprEq}
-use Rattle.tokens.specs.Tokens.{isInflow, fundingToken}
-use Rattle.tokens.specs.Fundings.{tokenOf}
+use Rattle.tokens.specs.Tokens.{isInflow}
+use Rattle.tokens.specs.Numbers.{tokenOf}
 use Rattle.tokens.proofs.Joining.{token-none}
+use Rattle.fundings.specs.FundingTokens.{fundingToken}
 use Rattle.raises.specs.Raises.{raises}
 use Rattle.raises.specs.Raising.{isRaise, raisedBy, raising}
 use Rattle.raises.proofs.Statements.{raises-chosen}

@@ -15,7 +15,8 @@ use Rattle.model.specs.Model.{body}
 use Rattle.walking.specs.Walking.{present, receiver, bodyExprs}
 use Rattle.walking.specs.Table.{placedAt, placesOf}
 use Rattle.tokens.specs.Tokens.{single, isInflow}
-use Rattle.tokens.specs.Fundings.{Fundings, Standing, tokenOf}
+use Rattle.tokens.specs.Numbers.{Standing, tokenOf}
+use Rattle.fundings.specs.Fundings.{Fundings}
 use Rattle.fields.proofs.Tails.{tail-after}
 use Rattle.raises.specs.Raising.{isRaise, raisedBy, raising, raisesFrom, raisingFrom}
 use Rattle.reserve_tokens.specs.ReserveTokens.{guardTokens, only, raiseToken, raiseTokens}

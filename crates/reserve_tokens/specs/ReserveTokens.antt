@@ -10,7 +10,8 @@ use Rattle.fields.specs.Field.{Field, Fields, tag, part}
 use Rattle.model.specs.Model.{entries}
 use Rattle.walking.specs.Walking.{peel, withoutPlaces, exprs, guards, receiver, debits}
 use Rattle.equality.specs.Equality.{exprEq}
-use Rattle.tokens.specs.Tokens.{single, besideInAsset, isInflow, isCredit, fundingToken}
+use Rattle.tokens.specs.Tokens.{single, besideInAsset, isInflow, isCredit}
+use Rattle.fundings.specs.FundingTokens.{fundingToken}
 use Rattle.raises.specs.Raises.{startsAtZero, raises}
 
 -- v is also the peeled second argument of a member call credit, set or insert, on any base

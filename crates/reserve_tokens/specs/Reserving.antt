@@ -11,8 +11,9 @@ use Rattle.tags.specs.Tag.{Call}
 use Rattle.fields.specs.Field.{Field, Fields, front, tag, part, nothing}
 use Rattle.walking.specs.Walking.{peel, present, receiver, isDebit, assetParams, exprs}
 use Rattle.equality.specs.Equality.{exprEq}
-use Rattle.tokens.specs.Tokens.{differ, fundingToken}
-use Rattle.tokens.specs.Fundings.{tokenOf}
+use Rattle.tokens.specs.Tokens.{differ}
+use Rattle.tokens.specs.Numbers.{tokenOf}
+use Rattle.fundings.specs.FundingTokens.{fundingToken}
 use Rattle.reserve_tokens.specs.ReserveTokens.{credited}
 
 -- The calls of an entry

@@ -15,7 +15,7 @@ ghost use mathlib.Core.Path.{_≡_};
 ghost use Prim.Native.Nat.{_≤_};
 ghost use lib.ListN.{length, drop};
 ghost use Rattle.fields.specs.Field.{front, part};
-ghost use Rattle.tokens.specs.Fundings.{tokenOf, Standing};
+ghost use Rattle.tokens.specs.Numbers.{tokenOf, Standing};
 ghost use Rattle.reserve_tokens.specs.ReserveTokens.{guardToken, guardTokens, only};
 ghost use Rattle.reserve_tokens.specs.Reserving.{Named};
 

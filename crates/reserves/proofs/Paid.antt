@@ -8,7 +8,7 @@ use lib.ListN.{length, getD, take, drop, length-take, length-drop}
 use Rattle.fields.specs.Lists.{any, sameBytes, bytes}
 use Rattle.fields.specs.Field.{Field, front, parts, part, sizes, placeOf}
 use Rattle.walking.specs.Walking.{peel, peelPlace, method}
-use Rattle.tokens.proofs.Funded.{any-mapped}
+use Rattle.fundings.proofs.Funded.{any-mapped}
 use Rattle.reserves.specs.Payouts.{payoutAmount}
 use Rattle.reserves.specs.Asked.{paidAt, askedAmount, askedAmounts}
 use Rattle.reserves.proofs.General.{or-left, or-right}

@@ -5,7 +5,7 @@ use mathlib.Core.Bool.{Bool}
 use mathlib.Core.List.{List, [], _∷_}
 use lib.ListN.{getD, set, replicate}
 use Rattle.fields.specs.Field.{fields}
-use Rattle.tokens.specs.Fundings.{tokenOf}
+use Rattle.tokens.specs.Numbers.{tokenOf}
 use Rattle.reserve_tokens.specs.ReserveTokens.{reserveToken}
 use Rattle.reserves.specs.Asked.{askedToken}
 use Rattle.reserves.specs.Holding.{stateName, isToken, holdsToken, Right}

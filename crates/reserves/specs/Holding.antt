@@ -7,7 +7,7 @@ use lib.ListN.{getD}
 use Rattle.fields.specs.Lists.{sameBytes, known}
 use Rattle.fields.specs.Field.{fields}
 use Rattle.model.specs.Model.{stateNames}
-use Rattle.tokens.specs.Fundings.{tokenOf}
+use Rattle.tokens.specs.Numbers.{tokenOf}
 use Rattle.reserve_tokens.specs.ReserveTokens.{reserveToken}
 use Rattle.reserves.specs.Asked.{askedToken}
 

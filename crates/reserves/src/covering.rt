@@ -12,7 +12,7 @@ ghost use mathlib.Core.Path.{_≡_};
 ghost use Prim.Native.Nat.{_≤_, _<_};
 ghost use lib.ListN.{length, take, drop};
 ghost use Rattle.fields.specs.Field.{fields, front};
-ghost use Rattle.tokens.specs.Fundings.{Fundings};
+ghost use Rattle.fundings.specs.Fundings.{Fundings};
 ghost use Rattle.reserves.specs.Reserves.{reserveBoundingPayout};
 ghost use Rattle.reserves.specs.Candidates.{Candidates};
 ghost use Rattle.reserves.specs.Asked.{askedToken, askedAmount};

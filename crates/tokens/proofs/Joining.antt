@@ -15,7 +15,7 @@ use Rattle.fields.proofs.Reading.{front-none}
 use Rattle.fields.proofs.Texts.{bytes-equal, bytes-same}
 use Rattle.walking.specs.Walking.{peel}
 use Rattle.tokens.specs.Tokens.{single, besideInAsset}
-use Rattle.tokens.specs.Fundings.{tokenOf, joined, joinedAll}
+use Rattle.tokens.specs.Numbers.{tokenOf, joined, joinedAll}
 
 -- What the code tests
 

@@ -1,10 +1,5 @@
 pub mod Agreeing
-pub mod Funded
-pub mod Funders
 pub mod Examples
 pub mod Shown
 pub mod Joining
 pub mod Numbers
-pub mod Through
-pub mod Filling
-pub mod Entering

@@ -20,8 +20,8 @@ use Rattle.conditions.specs.Conditions.{Condition, requiredConditions, operator
 use Rattle.conditions.specs.Table.{marks, conditionAt}
 use Rattle.conditions.proofs.Callers.{Holds, conditions-stand, table-wide, table-read}
 use Rattle.tokens.specs.Tokens.{besideInAsset, tokenNamed, tokensNamed, admittedInflowToken}
-use Rattle.tokens.specs.Agreed.{tokenAt}
-use Rattle.tokens.specs.Fundings.{tokenOf, joined, joinedAll, conditionNumber, tokensNumber, ConditionsOf, Standing}
+use Rattle.tokens.specs.Numbers.{tokenAt}
+use Rattle.tokens.specs.Numbers.{tokenOf, joined, joinedAll, conditionNumber, tokensNumber, ConditionsOf, Standing}
 use Rattle.tokens.proofs.Agreeing.{unknown, is-known}
 use Rattle.tokens.proofs.Joining.{Means, means-token, means-all, means-small, all-several}
 

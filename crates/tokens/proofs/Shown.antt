@@ -2,28 +2,26 @@
 use Prim.Native.Nat.{ℕ, zero, suc, _+_}
 use mathlib.Core.Path.{_≡_, refl, sym, ap, _∙_}
 use mathlib.Core.Bool.{Bool, true, false, cond}
-use mathlib.Core.List.{List, [], _∷_, map, flatMap}
+use mathlib.Core.List.{List, [], _∷_, map}
 use native.Mathlib.Omega.{arith}
 use native.Mathlib.Nat.{add-zero, add-assoc}
 use lib.Dec.{eqb}
 use lib.ListN.{length, take, drop}
-use lib.Seq.{take-length, drop-drop, drop-length}
+use lib.Seq.{drop-drop, drop-length}
 use Rattle.fields.specs.Lists.{all, filter, known, sameBytes}
-use Rattle.tags.specs.Tag.{InAsset, Identifier, Entry, Eq, between, isWrapper}
-use Rattle.fields.specs.Field.{Field, Fields, Placed, fields, front, tag, text, parts, part, nth, nothing, size, placeOf, placed, placedFrom}
+use Rattle.tags.specs.Tag.{InAsset, Identifier, Eq, isWrapper}
+use Rattle.fields.specs.Field.{Field, Fields, Placed, front, tag, text, parts, part, nth, nothing, size, placeOf, placed}
 use Rattle.fields.specs.Field.Field.{field}
 use Rattle.fields.specs.Field.Fields.{end, next}
-use Rattle.fields.proofs.Lists.{Every, map-append, every-filter, every-flatMap}
+use Rattle.fields.proofs.Lists.{Every}
 use Rattle.fields.proofs.Reading.{front-none}
 use Rattle.fields.proofs.Parts.{text-bytes}
-use Rattle.fields.proofs.Inside.{Stands, row-stands, parts-stand}
-use Rattle.model.specs.Model.{entries}
-use Rattle.walking.specs.Walking.{withoutPlaces, peel, peelFirst, peelPlace, peelFirstPlace, ident}
+use Rattle.fields.proofs.Inside.{Stands, parts-stand}
+use Rattle.walking.specs.Walking.{peel, peelFirst, peelPlace, peelFirstPlace, ident}
 use Rattle.conditions.specs.Conditions.{Condition, requiredConditions, operator}
 use Rattle.conditions.proofs.Callers.{Holds, conditions-stand}
-use Rattle.tokens.specs.Tokens.{single, besideInAsset, tokenNamed, tokensNamed, admittedInflowToken, funds, ledgerFundingTokens, fundingToken}
-use Rattle.tokens.specs.Fundings.{tokenOf}
-use Rattle.tokens.specs.Place.{besidePlace, Found, foundIn, foundOf, firstPlace, admittedPlace, fundingPlace}
+use Rattle.tokens.specs.Tokens.{single, besideInAsset, tokenNamed, tokensNamed, admittedInflowToken}
+use Rattle.tokens.specs.Place.{besidePlace, Found, foundIn, foundOf, firstPlace, admittedPlace}
 
 -- a peeled field stands at its place, down to where a wrapper holds none
 mutual
@@ -159,45 +157,6 @@ admitted-shown s =
     let p : Placed = record { place = 0; this = front s } in
     rw (← found-tokens (length s) p) (single-shown s (foundOf (length s) p) (entry-shown s p refl))
 
--- the entries of a file stand in it
-pub entries-stand : (file : List ℕ) → Every (Stands file) (entries (fields file))
-unfolding entries placedFrom
-entries-stand file =
-    every-filter (Stands file) (λ p. between Entry Entry (tag (p .this))) (placed 0 (fields file))
-    (rw (take-length file) at (row-stands file 0 (length file)))
-
-found-each : (last : ℕ) (ps : List Placed) → map (λ f. f .token) (flatMap (foundOf last) ps) ≡ flatMap tokensNamed (withoutPlaces ps)
-unfolding flatMap
-found-each last [] = refl
-found-each last (p ∷ ps) =
-    map-append (λ f. f .token) (foundOf last p) (flatMap (foundOf last) ps) ∙ rw (found-tokens last p, found-each last ps)
-
-pub filter-places : (f : Field → Bool) (ps : List Placed) → withoutPlaces (filter (λ p. f (p .this)) ps) ≡ filter f (withoutPlaces ps)
-unfolding filter
-filter-places f [] = refl
-filter-places f (p ∷ ps) = go (f (p .this)) (filter-places f ps)
-  where
-    go : (k : Bool) → withoutPlaces (filter (λ p. f (p .this)) ps) ≡ filter f (withoutPlaces ps) →
-        withoutPlaces (cond k (p ∷ filter (λ p. f (p .this)) ps) (filter (λ p. f (p .this)) ps)) ≡ cond k (p .this ∷ filter f (withoutPlaces ps)) (filter f (withoutPlaces ps))
-    go true e = rw e
-    go false e = e
-
-pub funding-shown : (file m : List ℕ) → Shows file (fundingPlace (length file) (fields file) m) (fundingToken (fields file) m)
-unfolding fundingPlace fundingToken ledgerFundingTokens
-funding-shown file m =
-    let ps : List Placed = filter (λ p. funds m (p .this)) (entries (fields file)) in
-    rw (← filter-places (funds m) (entries (fields file)), ← found-each (length file) ps)
-    (single-shown file (flatMap (foundOf (length file)) ps)
-    (every-flatMap (Stands file) (ShownIn file) (foundOf (length file)) (entry-shown file) ps
-    (every-filter (Stands file) (λ p. funds m (p .this)) (entries (fields file)) (entries-stand file))))
-
 -- so a part that reads as the token shows it there
 pub admitted-there : (s r : List ℕ) → r ≡ admittedInflowToken (front s) → Shows s (admittedPlace (length s) (front s)) r
 admitted-there s r e = rw e (admitted-shown s)
-
-module _ (file m : List ℕ) (k : ℕ) (e : tokenOf file k ≡ fundingToken (fields file) m) (r : List ℕ) (f : r ≡ tokenOf file k) where
-  pub funding-read : r ≡ fundingToken (fields file) m
-  funding-read = f ∙ e
-
-  pub funding-there : Shows file (fundingPlace (length file) (fields file) m) r
-  funding-there = rw funding-read (funding-shown file m)

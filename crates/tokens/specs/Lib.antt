@@ -1,4 +1,3 @@
 pub mod Tokens
-pub mod Agreed
 pub mod Place
-pub mod Fundings
+pub mod Numbers

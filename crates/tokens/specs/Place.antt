@@ -2,15 +2,14 @@
 -- Tokens.antt; here only its place.
 use Prim.Native.Nat.{ℕ, _+_}
 use mathlib.Core.Bool.{cond}
-use mathlib.Core.List.{List, [], _∷_, map, flatMap}
+use mathlib.Core.List.{List, [], _∷_, map}
 use lib.Dec.{eqb}
 use Rattle.fields.specs.Lists.{filter, known}
 use Rattle.tags.specs.Tag.{InAsset}
-use Rattle.fields.specs.Field.{Field, Fields, Placed, tag, parts, part, placeOf}
-use Rattle.model.specs.Model.{entries}
+use Rattle.fields.specs.Field.{Field, Placed, tag, parts, part, placeOf}
 use Rattle.walking.specs.Walking.{peel, peelPlace}
 use Rattle.conditions.specs.Conditions.{Condition, requiredConditions}
-use Rattle.tokens.specs.Tokens.{tokenNamed, funds}
+use Rattle.tokens.specs.Tokens.{tokenNamed}
 
 -- the identifier beside in-asset, in an expression at n; `last` is the end of the file
 unfoldable pub besidePlace : (last n : ℕ) → Field → ℕ
@@ -38,7 +37,3 @@ firstPlace (f ∷ fs) = f .place
 -- of the token that an entry admits, with places counted from the entry's own
 unfoldable pub admittedPlace : ℕ → Field → ℕ
 admittedPlace last entry = firstPlace (foundOf last (record { place = 0; this = entry }))
-
--- of the token that funds a map
-unfoldable pub fundingPlace : ℕ → Fields → List ℕ → ℕ
-fundingPlace last model m = firstPlace (flatMap (foundOf last) (filter (λ p. funds m (p .this)) (entries model)))

@@ -1,13 +1,12 @@
--- The tokens that entries and maps are known to hold.
+-- The tokens that entries are known to hold, and what comes in with an asset parameter.
 use Prim.Native.Nat.{ℕ}
 use mathlib.Core.Bool.{Bool, cond, _&&_, not}
-use mathlib.Core.List.{List, [], _∷_, map, flatMap}
+use mathlib.Core.List.{List, [], _∷_, map}
 use lib.Dec.{eqb}
 use Rattle.fields.specs.Lists.{any, all, filter, sameBytes, bytes, known}
 use Rattle.tags.specs.Tag.{InAsset, Eq}
-use Rattle.fields.specs.Field.{Field, Fields, tag, part}
-use Rattle.model.specs.Model.{entries}
-use Rattle.walking.specs.Walking.{peel, withoutPlaces, exprs, ident, method, receiver, assetAmountBacker, assetParams}
+use Rattle.fields.specs.Field.{Field, tag, part}
+use Rattle.walking.specs.Walking.{peel, ident, method, receiver, assetAmountBacker, assetParams}
 use Rattle.conditions.specs.Conditions.{Condition, requiredConditions, operator}
 
 -- A set of tokens is none, one or several
@@ -41,7 +40,7 @@ tokensNamed entry = filter known (map tokenNamed (requiredConditions entry))
 unfoldable pub admittedInflowToken : Field → List ℕ
 admittedInflowToken entry = single (tokensNamed entry)
 
--- Tokens that fund a map
+-- What comes in, and the calls that credit it
 
 -- `p.amount`, p an asset parameter of the entry
 unfoldable pub isInflow : Field → Field → Bool
@@ -54,15 +53,3 @@ isCredit f = any (sameBytes (method f)) (bytes "credit" ∷ bytes "set" ∷ byte
 -- a credit of the map with a second argument, peeled, `p.amount`
 unfoldable pub isFunding : List ℕ → Field → Field → Bool
 isFunding m entry f = isCredit f && sameBytes (receiver f) m && isInflow entry (peel (part 2 f))
-
--- an entry that has one
-unfoldable pub funds : List ℕ → Field → Bool
-funds m entry = any (isFunding m entry) (exprs entry)
-
--- all tokens named by entries that fund the map
-unfoldable pub ledgerFundingTokens : Fields → List ℕ → List (List ℕ)
-ledgerFundingTokens model m = flatMap tokensNamed (filter (funds m) (withoutPlaces (entries model)))
-
--- the map's single funding token
-unfoldable pub fundingToken : Fields → List ℕ → List ℕ
-fundingToken model m = single (ledgerFundingTokens model m)

@@ -1,7 +1,5 @@
-// The tokens that entries and maps are known to hold.
-pub mod funding;
+// The tokens that entries are known to hold, and what comes in with an asset parameter.
 pub mod inflow;
-pub mod ledger;
 pub mod naming;
 pub mod number;
 pub mod set;

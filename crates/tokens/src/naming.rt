@@ -11,7 +11,7 @@ use walking::shape::ident;
 ghost use mathlib.Core.Path.{_≡_};
 ghost use Rattle.fields.specs.Field.{front};
 ghost use Rattle.tokens.specs.Tokens.{besideInAsset};
-ghost use Rattle.tokens.specs.Agreed.{tokenAt};
+ghost use Rattle.tokens.specs.Numbers.{tokenAt};
 
 // The identifier beside in-asset, on either side of the field at the front of s, sides peeled; no bytes where there is none.
 pub fn beside_in_asset(s: &[u8]) -> &[u8]

@@ -12,7 +12,7 @@ ghost use lib.ListN.{drop};
 ghost use Rattle.fields.specs.Lists.{sameBytes};
 ghost use Rattle.walking.specs.Table.{placedAt};
 ghost use Rattle.conditions.specs.Table.{conditionAt};
-ghost use Rattle.tokens.specs.Fundings.{tokenOf, joined, conditionNumber, tokensNumber, ConditionsOf, Standing};
+ghost use Rattle.tokens.specs.Numbers.{tokenOf, joined, conditionNumber, tokensNumber, ConditionsOf, Standing};
 
 // The one token of a set; no bytes where it is empty or has two that differ.
 pub fn token_of(file: &[u8], number: usize) -> &[u8]

@@ -1,21 +1,13 @@
 // SPDX-License-Identifier: Apache-2.0 OR MIT
-// The token that an entry admits, and the one that funds a map. Each is a part of the file, and no token is the empty part.
-use super::funding::first_funding;
-use super::number::condition_number;
-use super::number::join;
+// The token that an entry admits. It is a part of the file, and no token is the empty part.
 use super::number::token_of;
 use super::number::tokens_number;
-use conditions::list::list_conditions;
-use fields::front::after_front;
-use fields::front::is_whole;
-use fields::table::number_at;
 ghost use mathlib.Core.Path.{_≡_};
-ghost use Prim.Native.Nat.{_≤_, _<_};
+ghost use Prim.Native.Nat.{_≤_};
 ghost use lib.ListN.{length, take, drop};
-ghost use Rattle.fields.specs.Field.{fields, front};
-ghost use Rattle.tokens.specs.Tokens.{admittedInflowToken, fundingToken};
-ghost use Rattle.tokens.specs.Fundings.{tokenOf};
-ghost use Rattle.tokens.specs.Place.{admittedPlace, fundingPlace};
+ghost use Rattle.fields.specs.Field.{front};
+ghost use Rattle.tokens.specs.Tokens.{admittedInflowToken};
+ghost use Rattle.tokens.specs.Place.{admittedPlace};
 
 // The one token that the entry at the front of s names; none where it names none, or two that differ.
 pub fn admitted_inflow_token(s: &[u8]) -> &[u8]
@@ -24,42 +16,4 @@ pub fn admitted_inflow_token(s: &[u8]) -> &[u8]
     ensures shows { λ r. ⌜ now r ≡ take (length (now r)) (drop (admittedPlace (length (now (s .entry))) (front (now (s .entry)))) (now (s .entry))) ⌝ }
 {
     token_of(s, tokens_number(s, 0))
-}
-
-// The set of the tokens named by the entries that fund the map, as far as it is told apart: the search ends where two differ.
-pub fn ledger_funding_number(file: &[u8], map: &[u8]) -> usize
-    requires { ⌜ length (now file) ≤ 32768 ⌝ }
-    ensures reads { λ r. ⌜ tokenOf (now (file .entry)) r ≡ fundingToken (fields (now (file .entry))) (now (map .entry)) ⌝ }
-    ensures small { λ r. ⌜ r < 65536 ⌝ }
-{
-    let mut found = 0;
-    let mut t = first_funding(file, map);
-    'search: loop {
-        if !is_whole(t) {
-            break found;
-        }
-        let place = file.len() - t.len();
-        let mut table = [0u16; 10923];
-        let count = list_conditions(t, &mut table);
-        let mut i = 0;
-        while i < count {
-            let named = condition_number(t, place, number_at(&table, i));
-            found = join(file, found, named);
-            if found == 1 {
-                break 'search 1;
-            }
-            i += 1;
-        }
-        let u = first_funding(after_front(t), map);
-        t = u;
-    }
-}
-
-// The one token named by the entries that fund the map; none where they name none, or two that differ.
-pub fn ledger_funding_token<'a>(file: &'a [u8], map: &[u8]) -> &'a [u8]
-    requires { ⌜ length (now file) ≤ 32768 ⌝ }
-    ensures reads { λ r. ⌜ now r ≡ fundingToken (fields (now (file .entry))) (now (map .entry)) ⌝ }
-    ensures shows { λ r. ⌜ now r ≡ take (length (now r)) (drop (fundingPlace (length (now (file .entry))) (fields (now (file .entry))) (now (map .entry))) (now (file .entry))) ⌝ }
-{
-    token_of(file, ledger_funding_number(file, map))
 }

@@ -20,7 +20,7 @@ use Rattle.fields.proofs.Inside.{Stands, parts-stand}
 use Rattle.model.specs.Model.{nameOf, params}
 use Rattle.walking.specs.Walking.{isAssetParameter, assetParams}
 use Rattle.walking.specs.Table.{placedAt}
-use Rattle.tokens.specs.Fundings.{Standing}
+use Rattle.tokens.specs.Numbers.{Standing}
 use Rattle.verdict.specs.Calls.{assetPlace, assetPlaces}
 
 -- Listing them

@@ -11,7 +11,7 @@ use Rattle.fields.specs.Field.{Field, Fields, fields, front, nothing}
 use Rattle.fields.specs.Table.{Listed}
 use Rattle.walking.specs.Walking.{payouts}
 use Rattle.walking.specs.Table.{placedAt}
-use Rattle.tokens.specs.Fundings.{Fundings}
+use Rattle.fundings.specs.Fundings.{Fundings}
 use Rattle.reserves.specs.Candidates.{Candidates}
 use Rattle.reserves.specs.Holding.{Right}
 use Rattle.matching.specs.Matching.{Cover, Reason, Marks, Backing, backings, answer, start}

@@ -16,7 +16,7 @@ ghost use Prim.Native.Nat.{_+_, _≤_};
 ghost use lib.ListN.{length, take, drop};
 ghost use Rattle.fields.specs.Field.{front, parts};
 ghost use Rattle.fields.specs.Table.{Listed};
-ghost use Rattle.tokens.specs.Fundings.{Standing};
+ghost use Rattle.tokens.specs.Numbers.{Standing};
 ghost use Rattle.verdict.specs.Calls.{wanted, chosenOf, assetPlaces};
 
 // Whether a payout stands at the front of s, or a caller debit, as is asked for.

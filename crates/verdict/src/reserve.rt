@@ -4,12 +4,12 @@
 use super::calls::choose;
 use super::entry::less;
 use fields::front::is_whole;
+use fundings::ledger::NOT_LISTED;
 use model::nth_entry;
 use reserves::candidates::list_candidates;
 use reserves::covering::Reserve;
 use reserves::covering::reserve_bounding_payout;
 use tags::CALL;
-use tokens::ledger::NOT_LISTED;
 use walking::walk::list_body;
 ghost use mathlib.Core.Path.{_≡_};
 ghost use Prim.Native.Nat.{_≤_};

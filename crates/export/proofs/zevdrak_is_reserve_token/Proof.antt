@@ -1,6 +1,6 @@
 -- The lookup's token is compared with the one asked about.
 use borrow.Author.Needs.{needs}
-use Rattle.tokens.proofs.Entering.{fundings-unlisted}
+use Rattle.fundings.proofs.Entering.{fundings-unlisted}
 use Rattle.export.proofs.Asked.{too-long, told-of}
 use Rattle.export.proofs.zevdrak_is_reserve_token.Statement.{statement}
 use Rattle.export.proofs.zevdrak_is_reserve_token.Tie as tie

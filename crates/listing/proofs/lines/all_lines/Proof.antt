@@ -5,7 +5,7 @@ use lib.ListN.{length}
 use Rattle.fields.specs.Field.{fields}
 use Rattle.fields.proofs.Told.{told}
 use Rattle.model.specs.Model.{entries}
-use Rattle.tokens.proofs.Entering.{fundings-unlisted}
+use Rattle.fundings.proofs.Entering.{fundings-unlisted}
 use Rattle.reserves.proofs.Remembering.{zeros-right}
 use Rattle.listing.specs.Listing.{entryLines}
 use Rattle.listing.proofs.Entries.{Entries, entries-none, entries-short, entries-table, entries-room, entries-same, entries-all, entries-fit, entries-less, entries-on, all-listing}

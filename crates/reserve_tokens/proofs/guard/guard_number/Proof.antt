@@ -15,7 +15,7 @@ use Rattle.fields.proofs.Places.{no-bytes}
 use Rattle.fields.proofs.Reading.{fields-next, fields-end}
 use Rattle.walking.specs.Walking.{peel, peelPlace}
 use Rattle.tokens.specs.Tokens.{besideInAsset}
-use Rattle.tokens.specs.Fundings.{tokenOf}
+use Rattle.tokens.specs.Numbers.{tokenOf}
 use Rattle.tokens.proofs.Agreeing.{is-known}
 use Rattle.tokens.proofs.Joining.{token-none, token-there}
 use Rattle.fields.proofs.Tails.{tail-of}

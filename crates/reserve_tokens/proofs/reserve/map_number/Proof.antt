@@ -12,9 +12,9 @@ use Rattle.fields.specs.Lists.{known, sameBytes}
 use Rattle.fields.specs.Field.{fields}
 use Rattle.tags.proofs.Bools.{and-left, and-right}
 use Rattle.fields.proofs.Texts.{bytes-equal}
-use Rattle.tokens.specs.Tokens.{fundingToken}
-use Rattle.tokens.specs.Fundings.{tokenOf}
+use Rattle.tokens.specs.Numbers.{tokenOf}
 use Rattle.tokens.proofs.Agreeing.{is-known}
+use Rattle.fundings.specs.FundingTokens.{fundingToken}
 use Rattle.reserve_tokens.specs.Reserving.{remembered}
 use Rattle.reserve_tokens.proofs.reserve.map_number.Statement.{statement}
 use Rattle.reserve_tokens.proofs.reserve.map_number.Tie as tie

@@ -7,8 +7,8 @@ use borrow.Author.Needs.{needs}
 use borrow.Author.Tests.{not-true, not-false}
 use Rattle.fields.specs.Field.{Field, fields}
 use Rattle.walking.specs.Walking.{present, receiver}
-use Rattle.tokens.specs.Tokens.{fundingToken}
-use Rattle.tokens.specs.Fundings.{tokenOf}
+use Rattle.tokens.specs.Numbers.{tokenOf}
+use Rattle.fundings.specs.FundingTokens.{fundingToken}
 use Rattle.reserve_tokens.specs.Reserving.{tokenOr}
 use Rattle.reserve_tokens.proofs.reserve.raise_number.Statement.{statement}
 use Rattle.reserve_tokens.proofs.reserve.raise_number.Tie as tie

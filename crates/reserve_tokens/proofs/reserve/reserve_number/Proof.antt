@@ -7,7 +7,7 @@ use borrow.Author.Needs.{needs}
 use borrow.Author.Tests.{not-true, not-false}
 use Rattle.fields.specs.Field.{fields}
 use Rattle.tokens.specs.Tokens.{single}
-use Rattle.tokens.specs.Fundings.{tokenOf}
+use Rattle.tokens.specs.Numbers.{tokenOf}
 use Rattle.raises.specs.Raises.{startsAtZero}
 use Rattle.reserve_tokens.specs.ReserveTokens.{raiseTokens, reserveToken}
 use Rattle.reserve_tokens.proofs.Held.{token-none-of}

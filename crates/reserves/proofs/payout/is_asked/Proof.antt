@@ -10,7 +10,7 @@ use Rattle.fields.specs.Lists.{any}
 use Rattle.fields.specs.Field.{Field, front}
 use Rattle.fields.proofs.Seeking.{Seeking, seeking-all, seeking-none, seeking-found, seeking-on}
 use Rattle.equality.specs.Equality.{exprEq}
-use Rattle.tokens.proofs.Funded.{any-mapped}
+use Rattle.fundings.proofs.Funded.{any-mapped}
 use Rattle.reserves.specs.Asked.{paidAt, askedAmount, askedAmounts}
 use Rattle.reserves.proofs.payout.is_asked.Statement.{statement}
 use Rattle.reserves.proofs.payout.is_asked.Tie as tie

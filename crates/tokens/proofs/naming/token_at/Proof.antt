@@ -11,7 +11,7 @@ use Rattle.fields.specs.Field.{front, tag}
 use Rattle.conditions.specs.Conditions.{opposite, operator}
 use Rattle.conditions.specs.Table.{conditionAt}
 use Rattle.tokens.specs.Tokens.{besideInAsset, tokenNamed}
-use Rattle.tokens.specs.Agreed.{tokenAt}
+use Rattle.tokens.specs.Numbers.{tokenAt}
 use Rattle.tokens.proofs.naming.token_at.Statement.{statement}
 use Rattle.tokens.proofs.naming.token_at.Tie as tie
 

@@ -3,7 +3,7 @@ use borrow.Author.Needs.{needs}
 use native.Mathlib.Omega.{arith}
 use Prim.Native.Nat.{_-_}
 use Rattle.walking.specs.Table.{placedAt}
-use Rattle.tokens.specs.Fundings.{tokensNumber}
+use Rattle.tokens.specs.Numbers.{tokensNumber}
 use Rattle.tokens.proofs.Numbers.{Joining, markNumber, joining-all, joining-on, joining-done}
 use Rattle.tokens.proofs.number.tokens_number_among.Statement.{statement}
 use Rattle.tokens.proofs.number.tokens_number_among.Tie as tie

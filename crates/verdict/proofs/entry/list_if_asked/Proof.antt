@@ -1,6 +1,6 @@
 -- Nothing was listed, or all had room in the table.
 use borrow.Author.Needs.{needs}
-use Rattle.tokens.proofs.Entering.{fundings-unlisted, fundings-fit}
+use Rattle.fundings.proofs.Entering.{fundings-unlisted, fundings-fit}
 use Rattle.verdict.proofs.entry.list_if_asked.Statement.{statement}
 use Rattle.verdict.proofs.entry.list_if_asked.Tie as tie
 

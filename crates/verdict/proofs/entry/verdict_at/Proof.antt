@@ -1,7 +1,7 @@
 -- Either table has a number for each three bytes of the file, and nothing is listed yet.
 use native.Mathlib.Omega.{arith}
 use borrow.Author.Needs.{needs}
-use Rattle.tokens.proofs.Entering.{fundings-unlisted}
+use Rattle.fundings.proofs.Entering.{fundings-unlisted}
 use Rattle.reserves.proofs.Remembering.{zeros-right}
 use Rattle.verdict.proofs.entry.verdict_at.Statement.{statement}
 use Rattle.verdict.proofs.entry.verdict_at.Tie as tie

@@ -1,7 +1,7 @@
 -- The calls and the payouts are all in the tables; the k-th payout asks for its own token, and nothing is remembered yet.
 use native.Mathlib.Omega.{arith}
 use borrow.Author.Needs.{needs}
-use Rattle.tokens.proofs.Entering.{fundings-unlisted}
+use Rattle.fundings.proofs.Entering.{fundings-unlisted}
 use Rattle.reserves.proofs.Counting.{candidates-listed}
 use Rattle.reserves.proofs.Remembering.{zeros-right}
 use Rattle.verdict.proofs.Reserving.{calls-fit, payouts-fit, payout-missing, payout-found}

@@ -1,0 +1,3 @@
+pub mod FundingTokens
+pub mod Place
+pub mod Fundings

@@ -1,0 +1,4 @@
+// The tokens that fund a map.
+pub mod funding;
+pub mod ledger;
+pub mod token;
