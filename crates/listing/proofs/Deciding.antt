@@ -13,7 +13,7 @@ use Rattle.model.specs.Model.{entries}
 use Rattle.model.specs.Shown.{shown}
 use Rattle.model.proofs.Accessors.{shown-nth}
 use Rattle.walking.specs.Table.{placedAt}
-use Rattle.matching.specs.Tables.{entryOf}
+use Rattle.backings.specs.Tables.{entryOf}
 use Rattle.matching.specs.Matching.{Cover, Reason}
 use Rattle.matching.specs.Matching.Cover.{reserve}
 use Rattle.matching.specs.declared.answer.Reason.{Reason as CodedReason}

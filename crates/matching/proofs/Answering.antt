@@ -20,17 +20,18 @@ use Rattle.reserves.specs.declared.covering.Reserve.{Reserve as Reserved}
 use Rattle.reserves.specs.declared.covering.Reserve.the-variants.{Covers, Nothing}
 use Rattle.reserves.specs.Payouts.{payoutToken, payoutAmount}
 use Rattle.reserves.specs.Asked.{askedToken, paidAt, askedAmount}
+use Rattle.backings.specs.Numbers.{firstFrom, downFrom}
+use Rattle.backings.specs.Marked.{usedAt}
+use Rattle.backings.specs.Tables.{Tabled, entryOf, tokenAt, matches, passes}
+use Rattle.backings.specs.declared.marks.Marks.{Marks as Coded}
 use Rattle.matching.specs.Matching.{Backing, Marks, equals, bounds, equalCover, boundingCover, takeBacking, takeReserve, byReserve, byBounding, notTaken, byEqual, answer}
 use Rattle.matching.specs.Matching as matching
 use Rattle.matching.specs.Matching.Reason.{amountTaken}
 use Rattle.matching.specs.Matching.Answer.{rejection}
 use Rattle.matching.specs.Matching.Source.{debit, parameter}
-use Rattle.matching.specs.Numbers.{firstFrom, downFrom}
-use Rattle.matching.specs.Standing.{marksOf, usedAt}
-use Rattle.matching.specs.Tables.{Tabled, entryOf, backingsOf, tokenAt, backingAt, matches, passes}
+use Rattle.matching.specs.Standing.{marksOf, backingsOf, backingAt}
 use Rattle.matching.specs.Prepared.{Prepared}
 use Rattle.matching.specs.Coded.{coded, codedCover, codedReason, testBy, coverBy, conflictBy, byBacking, equalsAmount, orNext, beforeReserve, tried, coverAt, reserveAt, afterCover, afterAnswer}
-use Rattle.matching.specs.declared.marks.Marks.{Marks as Coded}
 use Rattle.matching.specs.declared.answer.Cover.{Cover}
 use Rattle.matching.specs.declared.answer.Cover.the-variants.{EqualDebit, EqualParameter, BoundingDebit, BoundingParameter, Reserve}
 use Rattle.matching.specs.declared.answer.Reason.{Reason}

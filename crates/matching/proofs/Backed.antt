@@ -16,9 +16,10 @@ use Rattle.walking.specs.Walking.{peel, receiver, assetParams, debits}
 use Rattle.equality.specs.Amount.{amountOf}
 use Rattle.tokens.specs.Tokens.{admittedInflowToken}
 use Rattle.fundings.specs.FundingTokens.{fundingToken}
+use Rattle.backings.specs.Tables.{Tabled, entryOf, debitAt, amountAt, tokenAt}
 use Rattle.matching.specs.Matching.{Backing, debitBackings, parameterBackings, backings}
 use Rattle.matching.specs.Matching.Source.{debit, parameter}
-use Rattle.matching.specs.Tables.{Tabled, entryOf, backingsOf, debitAt, amountAt, tokenAt, backingAt}
+use Rattle.matching.specs.Standing.{backingsOf, backingAt}
 
 module _ {A : Type 0} where
   -- each element with its number

@@ -9,7 +9,7 @@ use native.Mathlib.Omega.{arith}
 use lib.ListN.{length, getD}
 use Rattle.fields.specs.Lists.{any, find, removeFirst}
 use Rattle.tags.proofs.Bools.{and-left}
-use Rattle.matching.specs.Numbers.{chosenBy, firstFrom, downFrom}
+use Rattle.backings.specs.Numbers.{chosenBy, firstFrom, downFrom}
 
 -- The first number that passes
 

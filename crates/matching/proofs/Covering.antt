@@ -1,9 +1,9 @@
 -- The code's cases are the definition's.
 use Prim.Native.Nat.{ℕ, _+_}
 use mathlib.Core.Path.{_≡_}
-use Rattle.matching.specs.Standing.{without, withUsed}
+use Rattle.backings.specs.Marked.{without, withUsed}
+use Rattle.backings.specs.declared.marks.Marks.{Marks as Coded}
 use Rattle.matching.specs.Coded.{afterCover}
-use Rattle.matching.specs.declared.marks.Marks.{Marks as Coded}
 use Rattle.matching.specs.declared.answer.Cover.{Cover}
 use Rattle.matching.specs.declared.answer.Cover.the-variants.{EqualDebit, EqualParameter, BoundingDebit, BoundingParameter, Reserve}
 

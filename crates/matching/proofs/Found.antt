@@ -11,11 +11,12 @@ use Rattle.fields.specs.Lists.{any, find}
 use Rattle.fields.specs.Field.{Field, fields}
 use Rattle.walking.specs.Walking.{peel}
 use Rattle.equality.specs.Equality.{exprEq}
+use Rattle.backings.specs.Numbers.{chosenBy, firstFrom, markIs}
+use Rattle.backings.specs.Marked.{freeAt, takenAt}
+use Rattle.backings.specs.Tables.{Tabled, entryOf, amountAt, tokenAt, matches, passes, passesBy}
+use Rattle.backings.specs.declared.marks.Marks.{Marks as Coded}
 use Rattle.matching.specs.Matching.{Backing, Marks}
-use Rattle.matching.specs.Numbers.{chosenBy, firstFrom, markIs}
-use Rattle.matching.specs.Standing.{freeAt, takenAt, amounts}
-use Rattle.matching.specs.Tables.{Tabled, entryOf, backingsOf, amountAt, tokenAt, backingAt, matches, passes, passesBy}
-use Rattle.matching.specs.declared.marks.Marks.{Marks as Coded}
+use Rattle.matching.specs.Standing.{amounts, backingsOf, backingAt}
 use Rattle.matching.proofs.Chosen.{both, first-same, find-some, find-none}
 use Rattle.matching.proofs.Backed.{noBacking, backings-many, backing-is}
 

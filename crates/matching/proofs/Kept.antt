@@ -14,11 +14,12 @@ use lib.Seq.{set-out, getD-set-same, getD-set-other}
 use Rattle.fields.specs.Lists.{any, find, removeFirst}
 use Rattle.fields.specs.Field.{Field, Fields, fields}
 use Rattle.tags.proofs.Bools.{and-left}
+use Rattle.backings.specs.Numbers.{chosenBy, firstFrom, downFrom, markIs}
+use Rattle.backings.specs.Marked.{markAt, freeAt, takenAt, usedAt, allFree, without, withUsed}
+use Rattle.backings.specs.Tables.{Tabled, entryOf, matches, passes}
+use Rattle.backings.specs.declared.marks.Marks.{Marks as Coded}
 use Rattle.matching.specs.Matching.{Backing, Marks, backings, start}
-use Rattle.matching.specs.Numbers.{chosenBy, firstFrom, downFrom, markIs}
-use Rattle.matching.specs.Standing.{markAt, freeAt, takenAt, usedAt, amounts, marksOf, Stands, allFree, without, withUsed}
-use Rattle.matching.specs.Tables.{Tabled, entryOf, backingsOf, backingAt, matches, passes}
-use Rattle.matching.specs.declared.marks.Marks.{Marks as Coded}
+use Rattle.matching.specs.Standing.{amounts, marksOf, Stands, backingsOf, backingAt}
 use Rattle.matching.proofs.Chosen.{both, Cleared, first-true, remove-chosen, taken-chosen}
 use Rattle.matching.proofs.Backed.{noBacking, backings-many, backing-is}
 use Rattle.matching.proofs.Found.{any-map, first-at}

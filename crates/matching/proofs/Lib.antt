@@ -1,8 +1,6 @@
-pub mod Reading
 pub mod Chosen
 pub mod Backed
 pub mod Found
-pub mod Marking
 pub mod Covering
 pub mod Steps
 pub mod Answering

@@ -15,17 +15,18 @@ use Rattle.walking.specs.Walking.{peel, present}
 use Rattle.tokens.specs.Tokens.{differ}
 use Rattle.reserves.specs.Reserves.{reserveBoundingPayout}
 use Rattle.reserves.specs.Payouts.{payoutToken, payoutAmount}
+use Rattle.backings.specs.Numbers.{firstFrom}
+use Rattle.backings.specs.Marked.{without, withUsed}
+use Rattle.backings.specs.Tables.{Tabled, entryOf, matches, passes}
+use Rattle.backings.specs.declared.marks.Marks.{Marks as Coded}
 use Rattle.matching.specs.Matching.{Backing, Marks, equals, bounds, equalCover, boundingCover, takeBacking, takeReserve, byReserve, byBounding, notTaken, byEqual, answer}
 use Rattle.matching.specs.Matching as matching
 use Rattle.matching.specs.Matching.Cover.{equalDebit, equalParameter, boundingDebit, boundingParameter, reserve}
 use Rattle.matching.specs.Matching.Reason.{splitWithoutAmount, conflictAtEqual, amountTaken, conflictAtBounding, noReserve, reserveUsed}
 use Rattle.matching.specs.Matching.Answer.{cover, rejection}
-use Rattle.matching.specs.Numbers.{firstFrom}
-use Rattle.matching.specs.Standing.{marksOf, Stands, without, withUsed}
-use Rattle.matching.specs.Tables.{Tabled, entryOf, backingsOf, backingAt, matches, passes}
+use Rattle.matching.specs.Standing.{marksOf, Stands, backingsOf, backingAt}
 use Rattle.matching.specs.Prepared.{Prepared}
 use Rattle.matching.specs.Coded.{coverOf, reasonOf, answerOf, codedCover, codedReason, coded, afterCover, afterAnswer, testBy, coverBy, conflictBy, byBacking, equalsAmount, coverAt, Answers, AnswersFor}
-use Rattle.matching.specs.declared.marks.Marks.{Marks as Coded}
 use Rattle.matching.specs.declared.answer.Cover.the-variants.{EqualDebit, EqualParameter, BoundingDebit, BoundingParameter, Reserve}
 use Rattle.matching.specs.declared.answer.Answer.{Answer}
 use Rattle.matching.specs.declared.answer.Answer.the-variants.{Covered, Rejected}

@@ -10,14 +10,15 @@ use Rattle.fields.specs.Field.{Field, Fields}
 use Rattle.walking.specs.Walking.{peel, present}
 use Rattle.equality.specs.Equality.{exprEq}
 use Rattle.reserves.specs.Payouts.{payoutAmount}
+use Rattle.backings.specs.Marked.{usedAt, without, withUsed}
+use Rattle.backings.specs.Numbers.{downFrom}
+use Rattle.backings.specs.declared.marks.Marks.{Marks as Coded}
 use Rattle.matching.specs.Matching.{Backing, Marks, equals, bounds, equalCover, boundingCover, takeBacking, answer}
 use Rattle.matching.specs.Matching as matching
 use Rattle.matching.specs.Matching.Cover.{equalDebit, equalParameter, boundingDebit, boundingParameter, reserve}
 use Rattle.matching.specs.Matching.Reason.{splitWithoutAmount, conflictAtEqual, amountTaken, conflictAtBounding, noReserve, reserveUsed}
 use Rattle.matching.specs.Matching.Answer.{cover, rejection}
-use Rattle.matching.specs.Standing.{Stands, usedAt, without, withUsed}
-use Rattle.matching.specs.Numbers.{downFrom}
-use Rattle.matching.specs.declared.marks.Marks.{Marks as Coded}
+use Rattle.matching.specs.Standing.{Stands}
 use Rattle.matching.specs.declared.answer.Cover.{Cover}
 use Rattle.matching.specs.declared.answer.Cover.the-variants.{EqualDebit, EqualParameter, BoundingDebit, BoundingParameter, Reserve}
 use Rattle.matching.specs.declared.answer.Reason.{Reason}

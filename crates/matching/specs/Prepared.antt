@@ -8,7 +8,7 @@ use Rattle.fields.specs.Field.{front}
 use Rattle.fundings.specs.Fundings.{Fundings}
 use Rattle.reserves.specs.Candidates.{Candidates}
 use Rattle.reserves.specs.Holding.{Right}
-use Rattle.matching.specs.Tables.{Tabled}
+use Rattle.backings.specs.Tables.{Tabled}
 
 -- s is the k-th payout
 pub record Prepared (file : List ℕ) (place : ℕ) (table : List ℕ) (count total : ℕ) (asked : List ℕ) (askedCount k : ℕ)

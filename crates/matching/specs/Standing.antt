@@ -1,30 +1,32 @@
--- Which marks of the pass those of the code stand for.
-use Prim.Native.Nat.{ℕ, _+_}
+-- Which backings of an entry the numbers of the code stand for, and which marks of the pass its marks.
+use Prim.Native.Nat.{ℕ, _-_}
 use mathlib.Core.Path.{_≡_}
-use mathlib.Core.Bool.{Bool, true, false, cond, not}
+use mathlib.Core.Bool.{Bool, cond}
 use mathlib.Core.List.{List, map}
 use lib.Dec.{ltb}
-use lib.ListN.{length, getD, set, replicate}
+use lib.ListN.{length}
 use Rattle.fields.specs.Lists.{any}
-use Rattle.fields.specs.Field.{Field}
-use Rattle.matching.specs.Matching.{Backing, Marks}
-use Rattle.matching.specs.Numbers.{chosenBy, downFrom}
-use Rattle.matching.specs.declared.marks.Marks.{Marks as Coded}
+use Rattle.fields.specs.Field.{Field, fields}
+use Rattle.backings.specs.Numbers.{chosenBy, downFrom}
+use Rattle.backings.specs.Marked.{freeAt, takenAt, usedAt}
+use Rattle.backings.specs.Tables.{entryOf, amountAt, tokenAt}
+use Rattle.backings.specs.declared.marks.Marks.{Marks as Coded}
+use Rattle.matching.specs.Matching.{Backing, Marks, backings}
+use Rattle.matching.specs.Matching.Source.{debit, parameter}
 
--- the mark of a number; past the last of 64 there is none
-unfoldable pub markAt : List Bool → ℕ → Bool
-markAt marks i = cond (ltb i 64) (getD marks i false) false
+-- the backings of the entry that stands at a place of the file
+abbrev pub backingsOf : List ℕ → ℕ → List Backing
+backingsOf file place = backings (fields file) (entryOf file place)
 
--- a backing is free where its mark is set, and taken where it is not
-unfoldable pub freeAt : Coded → ℕ → Bool
-freeAt m i = markAt (m .free) i
-
-unfoldable pub takenAt : Coded → ℕ → Bool
-takenAt m i = not (freeAt m i)
-
--- the reserve that was used as number i
-unfoldable pub usedAt : Coded → ℕ → ℕ
-usedAt m i = cond (ltb i 64) (getD (m .used) i 0) 0
+-- backing number i, with its index among debits or asset parameters
+unfoldable pub backingAt : List ℕ → ℕ → List ℕ → ℕ → ℕ → Backing
+backingAt file place table count i =
+    record {
+      source = cond (ltb i count) debit parameter;
+      index = cond (ltb i count) i (i - count);
+      amount = amountAt file place table count i;
+      token = tokenAt file place table count i;
+    }
 
 -- the amounts of backings
 abbrev pub amounts : List Backing → List Field
@@ -42,15 +44,3 @@ pub record Stands (bs : List Backing) (m : Coded) (s : Marks) : Type 0 where
   pub taken : (test : Field → Bool) → any test (s .taken) ≡ any test (marksOf bs m .taken)
   pub used : s .used ≡ marksOf bs m .used
   pub room : length (m .used) ≡ 64
-
--- the marks of the start: 64 set, and no reserve used
-unfoldable pub allFree : Coded
-allFree = record { free = replicate 64 true; used = replicate 64 0; uses = 0 }
-
--- the marks without the free one of number i
-unfoldable pub without : Coded → ℕ → Coded
-without m i = cond (ltb i 64) (record { free = set (m .free) i false; used = m .used; uses = m .uses }) m
-
--- the marks with one more reserve that is used; 64 find room
-unfoldable pub withUsed : Coded → ℕ → Coded
-withUsed m i = cond (ltb (m .uses) 64) (record { free = m .free; used = set (m .used) (m .uses) i; uses = m .uses + 1 }) m

@@ -1,12 +1,12 @@
 // SPDX-License-Identifier: Apache-2.0 OR MIT
 // The answer for one payout: a cover or a rejection.
-use super::backing::tokens_conflict;
-use super::marks::Marks;
-use super::marks::first_backing;
-use super::marks::is_used;
-use super::marks::take_backing;
-use super::marks::take_parameter;
-use super::marks::take_reserve;
+use backings::backing::tokens_conflict;
+use backings::marks::Marks;
+use backings::marks::first_backing;
+use backings::marks::is_used;
+use backings::marks::take_backing;
+use backings::marks::take_parameter;
+use backings::marks::take_reserve;
 use reserves::covering::Reserve;
 use reserves::covering::reserve_bounding_payout;
 use reserves::payout::payout_amount;
@@ -18,9 +18,9 @@ ghost use Rattle.fields.specs.Lists.{any};
 ghost use Rattle.fields.specs.Field.{fields, front};
 ghost use Rattle.fundings.specs.Fundings.{Fundings};
 ghost use Rattle.reserves.specs.Holding.{Right};
+ghost use Rattle.backings.specs.Tables.{Tabled, Admitted, entryOf};
 ghost use Rattle.matching.specs.Matching.{byReserve, answer};
-ghost use Rattle.matching.specs.Tables.{Tabled, Admitted, entryOf, backingsOf};
-ghost use Rattle.matching.specs.Standing.{marksOf};
+ghost use Rattle.matching.specs.Standing.{backingsOf, marksOf};
 ghost use Rattle.matching.specs.Prepared.{Prepared};
 ghost use Rattle.matching.specs.Coded.{coded, codedReason, conflictBy, equalsAmount, byBacking, beforeReserve, tried, coverAt, reserveAt, afterCover, afterAnswer, AnswersFor};
 

@@ -22,7 +22,7 @@ use Rattle.model.specs.Shown.{shown}
 use Rattle.walking.specs.Walking.{withoutPlaces, bodyExprs, assetParams, debits, payouts}
 use Rattle.walking.specs.Table.{placedAt, placesOf}
 use Rattle.walking.proofs.Callers.{body-few}
-use Rattle.matching.specs.Tables.{Tabled, entryOf}
+use Rattle.backings.specs.Tables.{Tabled, entryOf}
 use Rattle.tokens.specs.Numbers.{Standing}
 use Rattle.verdict.specs.Calls.{wanted, chosenOf, assetPlaces}
 use Rattle.claim.specs.Verdict.{Verdict, refused, accepted, matchFrom, matching, backingCount, spare, entryAt, entryVerdict, sheet, written}

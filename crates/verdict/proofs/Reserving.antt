@@ -22,7 +22,7 @@ use Rattle.reserves.specs.declared.covering.Reserve.the-variants.{Nothing}
 use Rattle.reserves.proofs.General.{find-none}
 use Rattle.reserves.specs.Payouts.{payoutToken}
 use Rattle.reserves.specs.Asked.{askedToken, paidAt, askedAmount}
-use Rattle.matching.specs.Tables.{entryOf}
+use Rattle.backings.specs.Tables.{entryOf}
 use Rattle.verdict.specs.Calls.{wantedAt, chosenOf}
 use Rattle.claim.specs.Claim.{payoutAt}
 use Rattle.verdict.specs.Coded.{Calls}

@@ -14,13 +14,15 @@ use Rattle.walking.specs.Table.{placedAt}
 use Rattle.fundings.specs.Fundings.{Fundings}
 use Rattle.reserves.specs.Candidates.{Candidates}
 use Rattle.reserves.specs.Holding.{Right}
+use Rattle.backings.specs.Tables.{Tabled, Admitted, entryOf}
+use Rattle.backings.specs.Marked.{allFree}
+use Rattle.backings.specs.declared.marks.Marks.{Marks as Coded}
+use Rattle.backings.proofs.Reading.{admits-nothing}
 use Rattle.matching.specs.Matching.{Cover, Reason, Marks, Backing, backings, answer, start}
 use Rattle.matching.specs.Matching.Answer.{cover, rejection}
-use Rattle.matching.specs.Tables.{Tabled, Admitted, entryOf, backingsOf}
+use Rattle.matching.specs.Standing.{backingsOf, Stands}
 use Rattle.matching.specs.Prepared.{Prepared}
-use Rattle.matching.specs.Standing.{Stands, allFree}
 use Rattle.matching.specs.Coded.{coverOf, reasonOf, codedReason, answerOf, Answers, AnswersFor}
-use Rattle.matching.specs.declared.marks.Marks.{Marks as Coded}
 use Rattle.matching.specs.declared.answer.Cover.{Cover as CodedCover}
 use Rattle.matching.specs.declared.answer.Cover.the-variants.{EqualDebit, EqualParameter, BoundingDebit, BoundingParameter, Reserve}
 use Rattle.matching.specs.declared.answer.Reason.{Reason as CodedReason}
@@ -30,7 +32,6 @@ use Rattle.matching.specs.declared.answer.Answer.the-variants.{Covered, Rejecte
 use Rattle.matching.specs.declared.answer.Answered.{Answered}
 use Rattle.matching.proofs.Backed.{backings-many}
 use Rattle.matching.proofs.Kept.{start-stands}
-use Rattle.matching.proofs.Reading.{admits-nothing}
 use Rattle.matching.proofs.Ways.{Step, a-step}
 use Rattle.claim.specs.Verdict.{Verdict, refused, rejected, accepted, withCover, matchFrom, matching, backingCount, spare, kind, index, sheet, written}
 use Rattle.verdict.specs.Sheet.{coverBytes}

@@ -11,7 +11,7 @@ use Rattle.questions.specs.Questions.{ask, atMost, _andThen_}
 use Rattle.questions.specs.Questions.Asked.{passes, fails}
 use Rattle.walking.specs.Walking.{isPayout, payouts, bodyExprs}
 use Rattle.walking.specs.Table.{placedAt, placesOf}
-use Rattle.matching.specs.Tables.{entryOf}
+use Rattle.backings.specs.Tables.{entryOf}
 use Rattle.matching.specs.Coded.{coverOf, codedReason}
 use Rattle.matching.specs.declared.answer.Answer.{Answer}
 use Rattle.matching.specs.declared.answer.Answer.the-variants.{Covered, Rejected as Rejected′}

@@ -16,7 +16,7 @@ ghost use Prim.Native.Nat.{_≤_};
 ghost use lib.ListN.{length};
 ghost use Rattle.fields.specs.Field.{fields};
 ghost use Rattle.reserves.specs.Covers.{reserveOf};
-ghost use Rattle.matching.specs.Tables.{entryOf};
+ghost use Rattle.backings.specs.Tables.{entryOf};
 ghost use Rattle.claim.specs.Verdict.{entryAt};
 ghost use Rattle.claim.specs.Reserve.{payoutReserve};
 
