@@ -2,7 +2,6 @@ pub mod Told
 pub mod Lists
 pub mod Slices
 pub mod Reading
-pub mod Steps
 pub mod Places
 pub mod Parts
 pub mod Rows

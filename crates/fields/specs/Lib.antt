@@ -1,4 +1,3 @@
 pub mod Lists
 pub mod Field
-pub mod Cursor
 pub mod Table

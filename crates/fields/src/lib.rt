@@ -1,5 +1,4 @@
 // The model file as fields: a one-byte tag, a two-byte length (most significant byte first), that many content bytes.
 pub mod bytes;
-pub mod cursor;
 pub mod front;
 pub mod table;

@@ -13,14 +13,14 @@ use Rattle.fields.specs.Lists.{all, known}
 use Rattle.tags.specs.Tag.{isExpression, isText, composite}
 use Rattle.fields.specs.Field.{Field, Fields, fields, fieldWith, tagOf, lengthOf, whole, content, after, front, tag, size}
 use Rattle.fields.specs.Field.Fields.{end, next}
-use Rattle.fields.specs.Cursor.{partAt}
-use Rattle.fields.specs.declared.cursor.Cursor.{Cursor}
-use Rattle.fields.specs.declared.cursor.Part.{Part}
-use Rattle.fields.specs.declared.cursor.Part.the-variants as part
+use Rattle.cursor.specs.Cursor.{partAt}
+use Rattle.cursor.specs.declared.Cursor.{Cursor}
+use Rattle.cursor.specs.declared.Part.{Part}
+use Rattle.cursor.specs.declared.Part.the-variants as part
 use Rattle.fields.proofs.Reading.{fields-next, fields-end, front-whole, content-shorter}
 use Rattle.fields.proofs.Places.{front-size, content-length}
 use Rattle.fields.proofs.Parts.{tag-front}
-use Rattle.fields.proofs.Steps.{PartFound, part-is, cut-is, end-is}
+use Rattle.cursor.proofs.Steps.{PartFound, part-is, cut-is, end-is}
 use Rattle.tags.proofs.Below.{holdsBelow, implies, implied}
 use Rattle.grammar.specs.Grammar.{grammar, slotsIn, slotsOf, advance, complete}
 use Rattle.grammar.specs.Slots.{slotList, leftBy}

@@ -1,7 +1,7 @@
 // Questions 1 to 6: the length of the file, then each field, outer before inner, front to back.
 use super::content::content_allowed;
-use fields::cursor::Cursor;
-use fields::cursor::Part;
+use cursor::Cursor;
+use cursor::Part;
 use grammar::Advanced;
 use grammar::slots_of;
 use tags::is_composite;

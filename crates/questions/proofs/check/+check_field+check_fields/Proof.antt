@@ -10,7 +10,7 @@ use Rattle.questions.proofs.check.check_field.Reads as check-field
 use Rattle.questions.proofs.check.+check_field+check_fields.Lts-check_field as check-field-lts
 use Rattle.questions.proofs.check.check_fields.Reads as check-fields
 use Rattle.questions.proofs.check.+check_field+check_fields.Lts-check_fields as check-fields-lts
-use Rattle.fields.proofs.cursor.Cursor.part.Reads as part-reads
+use Rattle.cursor.proofs.Cursor.part.Reads as part-reads
 use Rattle.tags.proofs.is_composite.Reads as is-composite-reads
 use Rattle.tags.proofs.is_expression.Reads as is-expression-reads
 use Rattle.questions.proofs.check.depth_inside.Reads as depth-inside-reads

@@ -1,8 +1,8 @@
 -- The two cases of the definition, by how many bytes are left at the cursor.
 use borrow.Author.Needs.{needs}
-use Rattle.fields.proofs.Steps.{in-range, text-found, text-cut}
-use Rattle.fields.proofs.cursor.Cursor.text.Statement.{statement}
-use Rattle.fields.proofs.cursor.Cursor.text.Tie as tie
+use Rattle.cursor.proofs.Steps.{in-range, text-found, text-cut}
+use Rattle.cursor.proofs.Cursor.text.Statement.{statement}
+use Rattle.cursor.proofs.Cursor.text.Tie as tie
 
 pub text-spec : {M : Type 1} → statement M
 text-spec =

@@ -1,9 +1,9 @@
 // A reading place in a part of the file: a small state by value, which each reading step hands back moved.
-use super::bytes::skip;
-use super::front::front_tag;
-use super::front::length_of;
+use fields::bytes::skip;
+use fields::front::front_tag;
+use fields::front::length_of;
 ghost use mathlib.Core.Path.{_≡_};
-ghost use Rattle.fields.specs.Cursor.{headAt, textAt, partAt};
+ghost use Rattle.cursor.specs.Cursor.{headAt, textAt, partAt};
 
 pub struct Cursor {
     pub at: usize,

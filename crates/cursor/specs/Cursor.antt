@@ -4,14 +4,14 @@ use mathlib.Core.Bool.{cond}
 use mathlib.Core.List.{List}
 use lib.Dec.{leb}
 use lib.ListN.{length, drop}
 use Rattle.fields.specs.Field.{tagOf, lengthOf, whole}
-use Rattle.fields.specs.declared.cursor.Cursor.{Cursor}
-use Rattle.fields.specs.declared.cursor.Head.{Head}
-use Rattle.fields.specs.declared.cursor.Head.the-variants as head
-use Rattle.fields.specs.declared.cursor.Text.{Text}
-use Rattle.fields.specs.declared.cursor.Text.the-variants as text
-use Rattle.fields.specs.declared.cursor.Part.{Part}
-use Rattle.fields.specs.declared.cursor.Part.the-variants as part
+use Rattle.cursor.specs.declared.Cursor.{Cursor}
+use Rattle.cursor.specs.declared.Head.{Head}
+use Rattle.cursor.specs.declared.Head.the-variants as head
+use Rattle.cursor.specs.declared.Text.{Text}
+use Rattle.cursor.specs.declared.Text.the-variants as text
+use Rattle.cursor.specs.declared.Part.{Part}
+use Rattle.cursor.specs.declared.Part.the-variants as part
 
 -- a cursor at a place
 abbrev pub cursorAt : ℕ → Cursor

@@ -1,8 +1,8 @@
 -- A field is a head and the text of its length, and each case of the two steps is a case of the field.
 use borrow.Author.Needs.{needs}
-use Rattle.fields.proofs.Steps.{part-found, part-cut, part-cut-head, part-end}
-use Rattle.fields.proofs.cursor.Cursor.part.Statement.{statement}
-use Rattle.fields.proofs.cursor.Cursor.part.Tie as tie
+use Rattle.cursor.proofs.Steps.{part-found, part-cut, part-cut-head, part-end}
+use Rattle.cursor.proofs.Cursor.part.Statement.{statement}
+use Rattle.cursor.proofs.Cursor.part.Tie as tie
 
 pub part-spec : {M : Type 1} → statement M
 part-spec =

@@ -10,16 +10,16 @@ use mir.Val.{Fits}
 use lib.Dec.{leb}
 use lib.ListN.{length, take, drop, length-drop}
 use lib.Seq.{drop-drop}
 use Rattle.fields.specs.Field.{tagOf, lengthOf, whole, content, after}
-use Rattle.fields.specs.Cursor.{headAt, textAt, partAt, cursorAt}
-use Rattle.fields.specs.declared.cursor.Cursor.{Cursor}
-use Rattle.fields.specs.declared.cursor.Head.{Head}
-use Rattle.fields.specs.declared.cursor.Head.the-variants as head
-use Rattle.fields.specs.declared.cursor.Text.{Text}
-use Rattle.fields.specs.declared.cursor.Text.the-variants as text
-use Rattle.fields.specs.declared.cursor.Part.{Part}
-use Rattle.fields.specs.declared.cursor.Part.the-variants as part
+use Rattle.cursor.specs.Cursor.{headAt, textAt, partAt, cursorAt}
+use Rattle.cursor.specs.declared.Cursor.{Cursor}
+use Rattle.cursor.specs.declared.Head.{Head}
+use Rattle.cursor.specs.declared.Head.the-variants as head
+use Rattle.cursor.specs.declared.Text.{Text}
+use Rattle.cursor.specs.declared.Text.the-variants as text
+use Rattle.cursor.specs.declared.Part.{Part}
+use Rattle.cursor.specs.declared.Part.the-variants as part
 use Rattle.fields.proofs.Places.{no-bytes}
 
 -- a place behind n more bytes of s is no larger than a slice's length
 pub in-range : (s x : List ℕ) (at n : ℕ) → x ≡ drop at s → n ≤ length x → at < 2 ^ 64 → length s < 2 ^ 64 → Fits w64 (at + n)

@@ -1,8 +1,8 @@
 -- The three cases of the definition, by how many bytes are left at the cursor.
 use borrow.Author.Needs.{needs}
-use Rattle.fields.proofs.Steps.{in-range, head-found, head-cut, head-end}
-use Rattle.fields.proofs.cursor.Cursor.head.Statement.{statement}
-use Rattle.fields.proofs.cursor.Cursor.head.Tie as tie
+use Rattle.cursor.proofs.Steps.{in-range, head-found, head-cut, head-end}
+use Rattle.cursor.proofs.Cursor.head.Statement.{statement}
+use Rattle.cursor.proofs.Cursor.head.Tie as tie
 
 pub head-spec : {M : Type 1} → statement M
 head-spec =
