@@ -15,7 +15,7 @@ use Rattle.questions.specs.Answers.{asked}
 use Rattle.questions.specs.declared.check.Answer.{Answer}
 use Rattle.questions.specs.declared.check.Answer.the-variants.{Passes, Refused}
 use Rattle.walking.specs.Table.{placedAt}
-use Rattle.tokens.specs.Fundings.{Fundings}
+use Rattle.fundings.specs.Fundings.{Fundings}
 use Rattle.reserves.specs.Holding.{Right}
 use Rattle.claim.specs.Verdict.{Verdict, refused, verdict, entryVerdict, written}
 use Rattle.verdict.specs.Coded.{placedVerdict}

@@ -4,7 +4,7 @@ use borrow.Author.Needs.{needs}
 use lib.ListN.{length}
 use Rattle.fields.proofs.Told.{told}
 use Rattle.fields.proofs.Rows.{from-less}
-use Rattle.tokens.proofs.Entering.{fundings-unlisted}
+use Rattle.fundings.proofs.Entering.{fundings-unlisted}
 use Rattle.reserves.proofs.Remembering.{zeros-right}
 use Rattle.contract.proofs.Recording.{Recording, recording-none, recording-short, recording-table, recording-room, recording-same, recording-on, recording-all, outcome-all}
 use Rattle.contract.proofs.records.all_records.Statement.{statement}
