@@ -2,7 +2,7 @@
 use Prim.Native.Nat.{ℕ, suc, _+_, _-_, _*_, _≤_}
 use mathlib.Core.Path.{_≡_, refl, sym, ap, _∙_}
 use mathlib.Core.Bool.{true, false, cond}
-use mathlib.Core.List.{List, flatMap}
+use mathlib.Core.List.{List, flatMap, append-nil}
 use native.Mathlib.Omega.{arith}
 use lib.Dec.{ltb}
 use lib.ListN.{length, take, drop}
@@ -26,9 +26,8 @@ use Rattle.listing.specs.Listing.{below}
 use Rattle.listing.proofs.Entries.{Entries, entries-none, entries-short, entries-table, entries-room, entries-same, entries-all, entries-on, nth-shown}
 use Rattle.contract.specs.Answer.{outcome, firstOf, secondOf}
 use Rattle.contract.specs.Records.{recorded, verdictOn, records, largest, outcomeOfAll}
-use Rattle.contract.specs.Coded.{NumbersOf}
+use Rattle.contract.specs.Coded.{headOf}
 use Rattle.contract.specs.declared.records.Recorded.{Recorded}
-use Rattle.contract.proofs.Writing.{head, head-recorded}
 
 -- of a file that a question refuses
 module _ (file : List ℕ) (a : Answer) (e : asked a ≡ askFile file) (k p : ℕ) (f : a ≡ Refused k p) where
@@ -39,10 +38,9 @@ module _ (file : List ℕ) (a : Answer) (e : asked a ≡ askFile file) (k p : �
   unfolding outcomeOfAll
   refused-outcome = rw (outcomeOfAll, fails-so)
 
-  pub refused-records : (t u : List ℕ) (r : ℕ) → Written (head (record { outcome = 2; first = k; second = p })) t 0 u r → Written (records file) t 0 u r
-  unfolding records outcome firstOf secondOf
-  refused-records t u r w =
-      rw (records, fails-so) (head-recorded (refused k p) (record { outcome = 2; first = k; second = p }) (record { what = refl; one = refl; other = refl }) (λ z. omega (arith, z)) t 0 u r w)
+  pub refused-records : (t u : List ℕ) (r : ℕ) → Written (headOf (record { outcome = 2; first = k; second = p })) t 0 u r → Written (records file) t 0 u r
+  unfolding records recorded headOf outcome firstOf secondOf written
+  refused-records t u r w = rw (records, fails-so, append-nil) w
 
 abbrev recordOn : List ℕ → ℕ → List ℕ
 recordOn file n = recorded (verdictOn file n)

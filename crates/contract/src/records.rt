@@ -15,7 +15,6 @@ use verdict::entry::less;
 use verdict::entry::placed_verdict;
 ghost use mathlib.Core.Path.{_≡_};
 ghost use mathlib.Core.Bool.{cond};
-ghost use mathlib.Core.List.{_∷_, _++_};
 ghost use Prim.Native.Nat.{_*_, _≤_};
 ghost use lib.Dec.{ltb};
 ghost use lib.ListN.{length};
@@ -28,6 +27,7 @@ ghost use Rattle.verdict.specs.Coded.{placedVerdict};
 ghost use Rattle.listing.specs.Output.{Written};
 ghost use Rattle.contract.specs.Answer.{outcome};
 ghost use Rattle.contract.specs.Records.{twoBytes, recorded, records, outcomeOfAll};
+ghost use Rattle.contract.specs.Coded.{headOf, recordOf};
 
 // What one entry is, or all together are, and where the byte behind the last record goes.
 pub struct Recorded {
@@ -47,11 +47,24 @@ fn write_number(number: usize, out: &mut [u8], n: usize) -> usize
 // Writes the numbers of a verdict.
 fn write_numbers(numbers: Numbers, out: &mut [u8], n: usize) -> usize
     requires { ⌜ n ≤ length (now out) ⌝ }
-    ensures { λ r. ⌜ Written (numbers .outcome ∷ twoBytes (numbers .first) ++ twoBytes (numbers .second)) (now (out .entry)) n (now (out .exit)) r ⌝ }
+    ensures { λ r. ⌜ Written (headOf numbers) (now (out .entry)) n (now (out .exit)) r ⌝ }
 {
     let k = write_byte(numbers.outcome, out, n);
     let m = write_number(numbers.first, out, k);
     write_number(numbers.second, out, m)
+}
+
+// Writes the record of a verdict with these numbers; the first of the bytes lent are the covers of an accepted entry.
+fn write_record(numbers: Numbers, covers: &[u8], out: &mut [u8], n: usize) -> usize
+    requires few { ⌜ (numbers .outcome ≡ 0 → 3 * numbers .first ≤ length (now covers)) ⌝ }
+    requires room { ⌜ n ≤ length (now out) ⌝ }
+    ensures { λ r. ⌜ Written (recordOf numbers (now (covers .entry))) (now (out .entry)) n (now (out .exit)) r ⌝ }
+{
+    let m = write_numbers(numbers, out, n);
+    if numbers.outcome != 0 {
+        return m;
+    }
+    write_text(keep(covers, 3 * numbers.first), out, m)
 }
 
 // The larger of two numbers.
@@ -96,16 +109,9 @@ fn entry_record(
         known,
         &mut covers,
     ));
-    let m = write_numbers(numbers, out, at);
-    if numbers.outcome != 0 {
-        return Recorded {
-            outcome: numbers.outcome,
-            end: m,
-        };
-    }
     Recorded {
-        outcome: 0,
-        end: write_text(keep(&covers, 3 * numbers.first), out, m),
+        outcome: numbers.outcome,
+        end: write_record(numbers, &covers, out, at),
     }
 }
 
