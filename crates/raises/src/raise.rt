@@ -24,14 +24,15 @@ ghost use Rattle.tags.specs.Tag.{Entry, Guard, ExpressionStatement};
 ghost use Rattle.fields.specs.Field.{fields, fieldsFrom, front, after};
 ghost use Rattle.raises.specs.Raising.{isRaise, raisedBy, raising, raisesFrom, raisingFrom};
 
-// Whether the statement at the front of s raises the state field of that name: any subtraction from it is no raise.
+// Whether the statement at the front of s raises the state field of that name: any subtraction from it is no raise. The tag
+// tells that soonest, so it is asked before the names are compared.
 fn is_raise(name: &[u8], s: &[u8]) -> bool
     ensures { λ r. ⌜ r ≡ isRaise (now (name .entry)) (front (now (s .entry))) ⌝ }
 {
-    if !assigns(name, s) {
+    if tag_of(s) == SUBTRACT_FROM {
         return false;
     }
-    if tag_of(s) == SUBTRACT_FROM {
+    if !assigns(name, s) {
         return false;
     }
     !sets_from(SUB, name, s)
