@@ -218,8 +218,22 @@ fn long_file_number(file: &[u8], name: &[u8], fundings: &[u16], fundings_count: 
     raises_number(file, name, fundings, fundings_count, &mut calls)
 }
 
+// The same with the smaller of the two tables that has room.
+fn agreed_number(file: &[u8], name: &[u8], fundings: &[u16], fundings_count: usize) -> usize
+    requires small { ⌜ length (now file) ≤ 32768 ⌝ }
+    requires fundings { ⌜ Fundings (now file) (now fundings) «fundings_count» ⌝ }
+    ensures reads { λ r. ⌜ tokenOf (now (file .entry)) r ≡ single (raiseTokens (fields (now (file .entry))) (now (name .entry))) ⌝ }
+    ensures found { λ r. ⌜ Found (now (file .entry)) r ⌝ }
+{
+    if file.len() <= 6144 {
+        return short_file_number(file, name, fundings, fundings_count);
+    }
+    long_file_number(file, name, fundings, fundings_count)
+}
+
 // The number of the token that the state field of that name holds: it starts at zero, and all raises agree on one token; else
-// 1. It means the same for the whole file, and is never 0.
+// 1. It means the same for the whole file, and is never 0. Most fields of a file with many have no raise, and then the start
+// is not asked.
 pub fn reserve_number(file: &[u8], name: &[u8], fundings: &[u16], fundings_count: usize) -> usize
     requires small { ⌜ length (now file) ≤ 32768 ⌝ }
     requires fundings { ⌜ Fundings (now file) (now fundings) «fundings_count» ⌝ }
@@ -227,13 +241,14 @@ pub fn reserve_number(file: &[u8], name: &[u8], fundings: &[u16], fundings_count
     ensures some { λ r. ⌜ 0 < r ⌝ }
     ensures small { λ r. ⌜ r < 65536 ⌝ }
 {
+    let number = agreed_number(file, name, fundings, fundings_count);
+    if number < 2 {
+        return number;
+    }
     if !starts_at_zero(file, name) {
         return 1;
     }
-    if file.len() <= 6144 {
-        return short_file_number(file, name, fundings, fundings_count);
-    }
-    long_file_number(file, name, fundings, fundings_count)
+    number
 }
 
 // The token itself; no bytes where the field holds none.
