@@ -1,12 +1,12 @@
 -- A guard that counts has an expression in it, so the two numbers that are written of it take six bytes of the file, and a
 -- table of one number for each three bytes of a file has room for all.
-use Prim.Native.Nat.{ℕ, _+_, _*_, _^_, _%_, _≤_, _<_}
-use mathlib.Core.Path.{_≡_, refl}
+use Prim.Native.Nat.{ℕ, _+_, _-_, _*_, _^_, _%_, _≤_, _<_}
+use mathlib.Core.Path.{_≡_, refl, sym, _∙_}
 use mathlib.Core.Bool.{Bool, true, false, cond, not, _&&_, and-false}
 use mathlib.Core.List.{List, [], _∷_, map, flatMap}
 use native.Mathlib.Omega.{arith}
 use native.Mathlib.Nat.{mod-eq-of-lt}
-use borrow.Author.Tests.{not-true, not-false, eq-eqb, ne-eqb, leb-true}
+use borrow.Author.Tests.{eq-eqb, ne-eqb, leb-true}
 use lib.Dec.{eqb}
 use lib.ListN.{length, drop, length-append, length-drop, length-map}
 use Rattle.fields.specs.Lists.{any, sameBytes}
@@ -27,7 +27,7 @@ use Rattle.equality.proofs.Equality.{nothing-right}
 use Rattle.raises.specs.Raises.{assigns}
 use Rattle.reserves.specs.Reserves.{guardedField, guardedAmount, containsWrapping, loweredBy, lowers}
 use Rattle.reserves.specs.Asked.{askedAmounts}
-use Rattle.reserves.specs.Candidates.{counts, stateIndex, numbersAt, candidateNumbers, Candidates}
+use Rattle.reserves.specs.Candidates.{counts, stateIndex, countedNumber, numbersAt, candidateNumbers, Candidates}
 use Rattle.reserves.proofs.General.{any-none, position-inside, size-least, row-few}
 
 -- What is missing does not count
@@ -50,6 +50,27 @@ unfolding nth size
 counts-size model amounts entry (field t x (end r)) h = leb-true 6 (size (field t x (end r))) (cc (missing-counts model amounts entry))
 counts-size model amounts entry (field t x (next g gs)) h = omega (arith, size-least g)
 
+-- The number of a guard that counts is not 0
+
+module _ (model : Fields) (amounts : List Field) (entry g : Field) where
+  none-counted : countedNumber model amounts entry g ≡ 0 → counts model amounts entry g ≡ false
+  unfolding countedNumber
+  none-counted e = go (counts model amounts entry g) refl
+    where
+      go : (b : Bool) → counts model amounts entry g ≡ b → counts model amounts entry g ≡ false
+      go true h =
+          let z : 1 + stateIndex model (guardedField g) ≡ 0 = rw h at e in
+          absurd (omega (arith, z))
+      go false h = h
+
+  some-counted : (countedNumber model amounts entry g ≡ 0 → ⊥) → counts model amounts entry g ≡ true
+  unfolding countedNumber
+  some-counted f = go (counts model amounts entry g) refl
+    where
+      go : (b : Bool) → counts model amounts entry g ≡ b → counts model amounts entry g ≡ true
+      go true h = h
+      go false h = absurd (f (rw h))
+
 -- Writing the two numbers
 
 module _ (model : Fields) (amounts : List Field) (entry : Field) (s : List ℕ) (at : ℕ) (t : List ℕ) (n g : ℕ) (e : g ≡ tag (front s)) where
@@ -60,14 +81,19 @@ module _ (model : Fields) (amounts : List Field) (entry : Field) (s : List ℕ) 
   unfolding numbersAt
   other-part h = rw (← e, ne-eqb g 0x10 h) (listed-none t n)
 
-  module _ (h : g ≡ 0x10) (x : List ℕ) (f : front x ≡ part 0 (front s)) (b : Bool) (i : b ≡ counts model amounts entry (front x)) where
-    pub not-counted : not b ≡ true → Listed numbers t n t n
+  module _ (h : g ≡ 0x10) (x : List ℕ) (f : front x ≡ part 0 (front s)) (j : ℕ) (i : j ≡ countedNumber model amounts entry (front x)) where
+    pub not-counted : j ≡ 0 → Listed numbers t n t n
     unfolding numbersAt
-    not-counted k = rw (← e, eq-eqb g 0x10 h, ← f, ← i, not-true b k) (listed-none t n)
+    not-counted k =
+        rw (← e, eq-eqb g 0x10 h, ← f, none-counted model amounts entry (front x) (sym i ∙ k)) (listed-none t n)
 
-    module _ (k : not b ≡ false) where
+    module _ (k : j ≡ 0 → ⊥) where
       counted : counts model amounts entry (part 0 (front s)) ≡ true
-      counted = rw (← f, ← i) (not-false b k)
+      counted = rw (← f) (some-counted model amounts entry (front x) (λ z. k (i ∙ z)))
+
+      numbered : j - 1 ≡ stateIndex model (guardedField (part 0 (front s)))
+      unfolding countedNumber
+      numbered = rw (i, f, counted) (omega arith)
 
       long : 6 ≤ length s
       unfolding nth
@@ -83,15 +109,15 @@ module _ (model : Fields) (amounts : List Field) (entry : Field) (s : List ℕ) 
         pub first-fits : n + 1 < 2 ^ 64
         first-fits = omega (arith, long, room .count)
 
-        pub second-fits : (j m : ℕ) (u : List ℕ) → Listed (cond true (j ∷ []) []) t n u m → m + 1 < 2 ^ 64
-        second-fits j m u p = omega (arith, long, room .count, p .count)
+        pub second-fits : (q m : ℕ) (u : List ℕ) → Listed (cond true (q ∷ []) []) t n u m → m + 1 < 2 ^ 64
+        second-fits q m u p = omega (arith, long, room .count, p .count)
 
-      pub both-written : (m : ℕ) (u : List ℕ) → Listed (cond true (at % 65536 ∷ []) []) t n u m → (y : List ℕ) → y ≡ guardedField (front x) →
-          (j : ℕ) → j ≡ stateIndex model y → (v : List ℕ) (r : ℕ) → Listed (cond true (j % 65536 ∷ []) []) u m v r → Listed numbers t n v r
+      pub both-written : (m : ℕ) (u : List ℕ) → Listed (cond true (at % 65536 ∷ []) []) t n u m →
+          (v : List ℕ) (r : ℕ) → Listed (cond true ((j - 1) % 65536 ∷ []) []) u m v r → Listed numbers t n v r
       unfolding numbersAt
-      both-written m u p y a j c v r q =
-          rw (← e, eq-eqb g 0x10 h, ← f, ← i, not-false b k, ← a, ← c)
-          (listed-then (at % 65536 ∷ []) (j % 65536 ∷ []) t u v n m r p q)
+      both-written m u p v r q =
+          rw (← e, eq-eqb g 0x10 h, counted, ← numbered)
+          (listed-then (at % 65536 ∷ []) ((j - 1) % 65536 ∷ []) t u v n m r p q)
 
 -- Along the parts of an entry
 

@@ -1,5 +1,5 @@
 -- The guards of an entry that can matter for a payout, as numbers of two bytes in a lent table.
-use Prim.Native.Nat.{ℕ, _%_, _≤_}
+use Prim.Native.Nat.{ℕ, _+_, _%_, _≤_}
 use mathlib.Core.Path.{_≡_}
 use mathlib.Core.Bool.{Bool, cond, _&&_}
 use mathlib.Core.List.{List, [], _∷_, flatMap}
@@ -25,6 +25,14 @@ counts model amounts entry g =
 -- the number of a state field of that name
 unfoldable pub stateIndex : Fields → List ℕ → ℕ
 stateIndex model r = position (sameBytes r) (stateNames model)
+
+-- counted from 1; 0 where no state field has the name
+unfoldable pub stateNumber : Fields → List ℕ → ℕ
+stateNumber model r = cond (any (sameBytes r) (stateNames model)) (1 + stateIndex model r) 0
+
+-- of the state field of a guard that counts; 0 of any other guard
+unfoldable pub countedNumber : Fields → List Field → Field → Field → ℕ
+countedNumber model amounts entry g = cond (counts model amounts entry g) (1 + stateIndex model (guardedField g)) 0
 
 -- what is written of a part of the entry: where it is a guard that counts, its place and the number of its state field; up to
 -- 65,535 those are the numbers themselves (proofs/Counting.antt)

@@ -16,7 +16,6 @@ use fields::front::part_of;
 use fields::front::parts_of;
 use fields::front::tag_of;
 use fields::table::note;
-use model::has_state;
 use model::name_of;
 use tags::GUARD;
 use tags::STATE;
@@ -28,14 +27,14 @@ ghost use Rattle.fields.specs.Table.{Listed, Room};
 ghost use Rattle.walking.specs.Table.{placedAt};
 ghost use Rattle.reserves.specs.Asked.{askedAmounts};
 ghost use Rattle.reserves.specs.Lowerings.{LoweringsOf};
-ghost use Rattle.reserves.specs.Candidates.{counts, stateIndex, numbersAt, candidateNumbers};
+ghost use Rattle.reserves.specs.Candidates.{stateNumber, countedNumber, numbersAt, candidateNumbers};
 
-// The number of the first state field of that name, counted from 0; how many there are where none has it.
-pub fn state_index(file: &[u8], name: &[u8]) -> usize
-    ensures { λ r. ⌜ r ≡ stateIndex (fields (now (file .entry))) (now (name .entry)) ⌝ }
+// The number of the first state field of that name, counted from 1; 0 where none has it.
+fn state_number(file: &[u8], name: &[u8]) -> usize
+    ensures { λ r. ⌜ r ≡ stateNumber (fields (now (file .entry))) (now (name .entry)) ⌝ }
 {
     let mut t = first_from(file, STATE, STATE);
-    let mut n = 0;
+    let mut n = 1;
     while is_whole(t) {
         if same_bytes(name, name_of(t)) {
             return n;
@@ -44,12 +43,13 @@ pub fn state_index(file: &[u8], name: &[u8]) -> usize
         t = u;
         n += 1;
     }
-    n
+    0
 }
 
-// Whether the guard's expression at the front of s counts. Most guards bound no payout's amount, and payouts are few, so they
-// are asked first. An amount that is asked for is lowered only by the lowerings that a table has.
-fn guard_counts(
+// The number, counted from 1, of the state field that the guard's expression at the front of s bounds an amount by; 0 where the
+// guard does not count. Most guards bound no payout's amount, and payouts are few, so they are asked first. An amount that is
+// asked for is lowered only by the lowerings that a table has.
+fn counted_number(
     file: &[u8],
     asked: &[u16],
     count: usize,
@@ -57,20 +57,20 @@ fn guard_counts(
     lowerings: &[u16],
     lowering_count: usize,
     s: &[u8],
-) -> bool
+) -> usize
     requires asked { ⌜ count ≤ length (now asked) ⌝ }
     requires lowerings { ⌜ LoweringsOf (askedAmounts (now file) (now asked) count) (now entry) (now lowerings) «lowering_count» ⌝ }
-    ensures { λ r. ⌜ r ≡ counts (fields (now (file .entry))) (askedAmounts (now (file .entry)) (now (asked .entry)) count) (front (now (entry .entry))) (front (now (s .entry))) ⌝ }
+    ensures { λ r. ⌜ r ≡ countedNumber (fields (now (file .entry))) (askedAmounts (now (file .entry)) (now (asked .entry)) count) (front (now (entry .entry))) (front (now (s .entry))) ⌝ }
 {
     let amount = guarded_amount(s);
     if !is_asked(file, asked, count, amount) {
-        return false;
+        return 0;
     }
     let name = guarded_field(s);
     if !is_lowered(entry, lowerings, lowering_count, amount, name) {
-        return false;
+        return 0;
     }
-    has_state(file, name)
+    state_number(file, name)
 }
 
 // Writes the two numbers of the part of the entry at the front of s, which stands at a place of the file, where it is a guard
@@ -96,16 +96,12 @@ fn note_candidate(
         return n;
     }
     let guard = part_of(s, 0);
-    if !guard_counts(file, asked, count, entry, lowerings, lowering_count, guard) {
+    let number = counted_number(file, asked, count, entry, lowerings, lowering_count, guard);
+    if number == 0 {
         return n;
     }
     let m = note(true, at % 65536, table, n);
-    note(
-        true,
-        state_index(file, guarded_field(guard)) % 65536,
-        table,
-        m,
-    )
+    note(true, (number - 1) % 65536, table, m)
 }
 
 // Lists the guards that count in the body of the entry at a place of the file, as far as the table has room, and answers how

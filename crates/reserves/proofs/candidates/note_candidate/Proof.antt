@@ -12,11 +12,10 @@ note-candidate-spec =
     (λ c κs. search needs)  -- tag-of-requires
     (λ c. search other-part)  -- returns
     (λ c κs. search needs)  -- part-of-requires
-    (λ c κs. search needs)  -- guard-counts-requires
+    (λ c κs. search needs)  -- counted-number-requires
     (λ c. search not-counted)  -- returns-2
     (λ c κs. (omega arith, search first-fits))  -- note-requires
-    (λ c κs. search needs)  -- guarded-field-requires
-    (λ c κs. search needs)  -- state-index-requires
+    (λ c. omega arith)  -- sub-note
     (λ c κs. (omega arith, search second-fits))  -- note-requires-2
     (λ c. search needs)  -- same-length
     (λ c. search both-written))  -- returns-3
