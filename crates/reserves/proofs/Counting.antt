@@ -26,7 +26,7 @@ use Rattle.equality.specs.Equality.{exprEq}
 use Rattle.equality.proofs.Equality.{nothing-right}
 use Rattle.raises.specs.Raises.{assigns}
 use Rattle.reserves.specs.Reserves.{guardedField, guardedAmount, containsWrapping, loweredBy, lowers}
-use Rattle.reserves.specs.Asked.{askedAmounts}
+use Rattle.reserves.specs.Asked.{inflowAmounts}
 use Rattle.reserves.specs.Candidates.{counts, stateIndex, countedNumber, numbersAt, candidateNumbers, Candidates}
 use Rattle.reserves.proofs.General.{any-none, position-inside, size-least, row-few}
 
@@ -174,14 +174,14 @@ candidates-few model amounts file n = go (whole (drop n file)) refl
 
 -- so a table of one number for each three bytes of the file holds them all
 pub candidates-listed : (file : List ℕ) (place : ℕ) (asked : List ℕ) (count : ℕ) → count ≤ length asked → (table last : List ℕ) (r : ℕ) →
-    Listed (candidateNumbers (fields file) (askedAmounts file asked count) (placedAt file place)) table 0 last r → length file ≤ 3 * length table →
+    Listed (candidateNumbers (fields file) (inflowAmounts file place asked count) (placedAt file place)) table 0 last r → length file ≤ 3 * length table →
     Candidates file place asked count last r
 candidates-listed file place asked count w table last r p h =
     record {
       room = w;
       all =
-          listed-front (candidateNumbers (fields file) (askedAmounts file asked count) (placedAt file place)) table last r p
-          (omega (arith, p .count, candidates-few (fields file) (askedAmounts file asked count) file place));
+          listed-front (candidateNumbers (fields file) (inflowAmounts file place asked count) (placedAt file place)) table last r p
+          (omega (arith, p .count, candidates-few (fields file) (inflowAmounts file place asked count) file place));
       many = omega (arith, p .count);
     }
 

@@ -1,6 +1,6 @@
 -- The first candidate whose amount equals the payout's and whose field holds the token is the first guard that covers: of the
--- guards that are no candidates none can cover, since the payout asks for its amount, and equal amounts are lowered by the same
--- assignments.
+-- guards that are no candidates none can cover, since the payout asks for its amount, which contains what comes in, and equal
+-- amounts are lowered by the same assignments.
 use Prim.Native.Nat.{ℕ, zero, suc, _+_, _≤_, _<_}
 use mathlib.Core.Path.{_≡_, refl, sym, ap, _∙_}
 use mathlib.Core.Bool.{Bool, true, false, cond, _&&_, _||_, and-false}
@@ -24,10 +24,10 @@ use Rattle.equality.proofs.Equality.{expr-symmetric, expr-transitive}
 use Rattle.reserve_tokens.specs.ReserveTokens.{reserveToken}
 use Rattle.reserves.specs.Reserves.{containsInflow, guardedField, guardedAmount, guardedBy, loweredBy, lowers, reserveCovers, reserveBoundingPayout}
 use Rattle.reserves.specs.Candidates.{counts, stateIndex, candidateNumbers}
-use Rattle.reserves.specs.Asked.{askedToken, askedAmount, askedAmounts}
+use Rattle.reserves.specs.Asked.{askedToken, askedAmount, askedAmounts, inflowAmounts}
 use Rattle.reserves.specs.Holding.{stateName, isToken, holdsToken}
 use Rattle.reserves.specs.Covers.{reserveOf, amountAt, equalFrom}
-use Rattle.reserves.proofs.General.{or-right, any-same, find-none, find-same, every-weaker}
+use Rattle.reserves.proofs.General.{or-right, any-same, any-filter, find-none, find-same, every-weaker}
 use Rattle.reserves.proofs.Paid.{asked-among}
 use Rattle.reserves.proofs.Counting.{exactAt, candidates-read}
 use Rattle.reserves.specs.declared.covering.Reserve.{Reserve}
@@ -211,12 +211,15 @@ module _ (file : List ℕ) (place : ℕ) (asked : List ℕ) (k : ℕ) where
   unfolding reserveBoundingPayout reserveCovers reserveOf
   none-contained i = rw (find-none covering (λ r. rw i) named)
 
-  module _ (count : ℕ) (among : k < count) (room : count ≤ length asked) where
+  module _ (count : ℕ) (among : k < count) (room : count ≤ length asked) (inflow : containsInflow entry amount ≡ true) where
     abbrev amounts : List Field
-    amounts = askedAmounts file asked count
+    amounts = inflowAmounts file place asked count
 
     own : (x : Field) → exprEq x amount ≡ true → any (exprEq x) amounts ≡ true
-    own x = asked-among file asked count k among room (exprEq x)
+    unfolding inflowAmounts
+    own x e =
+        any-filter (exprEq x) (containsInflow entry) (askedAmounts file asked count)
+        ∙ asked-among file asked count k among room (λ a. containsInflow entry a && exprEq x a) (rw (inflow, e))
 
     abbrev test : List ℕ → Bool
     test = covers file asked k entry amount amounts own
@@ -229,13 +232,13 @@ module _ (file : List ℕ) (place : ℕ) (asked : List ℕ) (k : ℕ) where
         rw (candidates-read file small amounts place)
         (searched file asked k entry amount amounts own (place + 3) (parts entry) (parts-stand file (placedAt file place) refl))
 
-    pub all-contained : length file ≤ 32768 → containsInflow entry amount ≡ true → first ≡ bounding
+    pub all-contained : length file ≤ 32768 → first ≡ bounding
     unfolding reserveBoundingPayout reserveCovers guardedBy guards isToken
-    all-contained small i =
+    all-contained small =
         entry-searched small
         ∙ ap (reserveOf (fields file))
         (find-same test covering named
         (every-weaker (λ r. any (sameBytes r) named ≡ true) (λ r. test r ≡ covering r)
-        (λ r a. rw (i, a) (regrouped (any (sameBytes r) (stateNames (fields file))) (any (lowers amount r) (body entry))
+        (λ r a. rw (inflow, a) (regrouped (any (sameBytes r) (stateNames (fields file))) (any (lowers amount r) (body entry))
         (known (askedToken file asked k)) (sameBytes (reserveToken (fields file) r) (askedToken file asked k))))
         named (each-among named)))

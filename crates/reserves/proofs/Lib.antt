@@ -1,6 +1,7 @@
 pub mod General
 pub mod Members
 pub mod Paid
+pub mod Asking
 pub mod Pairs
 pub mod Remembering
 pub mod Counting

@@ -7,13 +7,13 @@ use mathlib.Core.Bool.{Bool, true, false, cond, not, _&&_, and-false}
 use mathlib.Core.List.{List, [], _∷_, _++_, map, flatMap}
 use native.Mathlib.Omega.{arith}
 use native.Mathlib.Nat.{mod-eq-of-lt}
-use borrow.Author.Tests.{leb-true, le-leb}
+use borrow.Author.Tests.{not-true, leb-true, le-leb}
 use lib.Dec.{eqb, leb}
 use lib.ListN.{length, drop, length-append}
 use Rattle.fields.specs.Lists.{any, filter, sameBytes}
 use Rattle.tags.specs.Tag.{Guard, Set, SubtractFrom, ExpressionStatement, Sub, between, isAssign, isWrapper}
 use Rattle.fields.specs.Table.{Listed}
-use Rattle.fields.specs.Field.{Field, Fields, Placed, fields, lengthOf, whole, front, tag, parts, part, nth, nothing, size, sizes, row, fieldsFrom, placed}
+use Rattle.fields.specs.Field.{Field, Fields, Placed, fields, lengthOf, whole, front, tag, parts, part, nth, nothing, size, sizes, row, fieldsFrom, from, placed}
 use Rattle.fields.specs.Field.Field.{field}
 use Rattle.fields.specs.Field.Fields.{end, next}
 use Rattle.tags.proofs.Bools.{and-left, and-right}
@@ -21,6 +21,7 @@ use Rattle.fields.proofs.Lists.{Every, chosen, filter-first}
 use Rattle.fields.proofs.Texts.{bytes-equal}
 use Rattle.fields.proofs.Reading.{front-none}
 use Rattle.fields.proofs.Places.{front-size, parts-inside}
+use Rattle.fields.proofs.Rows.{from-row}
 use Rattle.fields.proofs.Inside.{Stands, parts-stand}
 use Rattle.fields.proofs.Tables.{listed-none, listed-front}
 use Rattle.fields.proofs.Listing.{Row}
@@ -150,11 +151,14 @@ statement-tag t h =
     let b : t ≤ SubtractFrom = leb-true t SubtractFrom (and-right (leb Set t) (leb t SubtractFrom) h) in
     rw (le-leb Guard t (omega arith), le-leb t ExpressionStatement (omega arith))
 
-lowering-statement : (amounts : List Field) (s : Field) → isLowering amounts s ≡ true → between Guard ExpressionStatement (tag s) ≡ true
+lowering-assigns : (amounts : List Field) (s : Field) → isLowering amounts s ≡ true → isAssign (tag s) ≡ true
 unfolding isLowering
-lowering-statement amounts s h =
+lowering-assigns amounts s h =
     let a : Bool = any (exprEq (loweredBy (ident (part 0 s)) s)) amounts in
-    statement-tag (tag s) (and-left (isAssign (tag s)) a (and-left (isAssign (tag s) && a) (not (containsWrapping (part 1 s))) h))
+    and-left (isAssign (tag s)) a (and-left (isAssign (tag s) && a) (not (containsWrapping (part 1 s))) h)
+
+lowering-statement : (amounts : List Field) (s : Field) → isLowering amounts s ≡ true → between Guard ExpressionStatement (tag s) ≡ true
+lowering-statement amounts s h = statement-tag (tag s) (lowering-assigns amounts s h)
 
 module _ (amounts : List Field) (s : List ℕ) (small : lengthOf s < 65536) where
   parts-small : 3 + sizes (parts (front s)) ≤ 65538
@@ -212,3 +216,18 @@ no-candidates model amounts file place x e table last count l small w z t =
     let v : LoweringsOf amounts (drop place file) last count = lowerings-listed amounts file place x e table last count l small w (omega arith) in
     let n : lowerings amounts (front (drop place file)) ≡ [] = sym (v .read) ∙ rw z in
     rw (no-numbers model amounts (front (drop place file)) n (place + 3) (parts (front (drop place file)))) (listed-none t 0)
+
+-- as in an entry that assigns nothing
+nothing-assigned : (amounts : List Field) (entry : Field) → fieldsFrom Set SubtractFrom (parts entry) ≡ [] → lowerings amounts entry ≡ []
+unfolding lowerings body fieldsFrom filter isAssign
+nothing-assigned amounts entry none =
+    filter-first (isLowering amounts) (λ f. between Guard ExpressionStatement (tag f)) (lowering-statement amounts) (row (parts entry))
+    ∙ sym (filter-first (isLowering amounts) (λ f. between Set SubtractFrom (tag f)) (lowering-assigns amounts) (row (parts entry)))
+    ∙ rw none
+
+pub none-assigned : (model : Fields) (amounts : List Field) (file : List ℕ) (place : ℕ) (x : List ℕ) → x ≡ drop place file → (y : List ℕ) → fields y ≡ parts (front x) →
+    (z : List ℕ) → z ≡ from 0x13 0x15 y → (b : Bool) → b ≡ whole z → not b ≡ true → (t : List ℕ) → Listed (candidateNumbers model amounts (placedAt file place)) t 0 t 0
+unfolding candidateNumbers
+none-assigned model amounts file place x e y f z g b o h t =
+    let n : fieldsFrom Set SubtractFrom (parts (front (drop place file))) ≡ [] = rw (← e, ← f, from-row Set SubtractFrom y, ← g, ← o, not-true b h) in
+    rw (no-numbers model amounts (front (drop place file)) (nothing-assigned amounts (front (drop place file)) n) (place + 3) (parts (front (drop place file)))) (listed-none t 0)

@@ -80,7 +80,7 @@ module _ (file : List ℕ) (place : ℕ) (amount asked : List ℕ) (count k : �
       firstOf file (front amount) (λ j. holdsToken file asked j k) (drop i (take n l)) ≡ bounding file place asked k
   found-first c =
       rw (e, equal-first file (front amount) (λ j. holdsToken file asked j k) (take n l), v .all, d)
-      (all-contained file place asked k count among (v .room) small (rw d at c))
+      (all-contained file place asked k count among (v .room) (rw d at c) small)
 
   pub none-equal : n ≤ i → Nothing ≡ bounding file place asked k
   unfolding firstOf

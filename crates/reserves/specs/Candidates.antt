@@ -12,7 +12,7 @@ use Rattle.model.specs.Model.{stateNames, body}
 use Rattle.walking.specs.Table.{placedAt}
 use Rattle.equality.specs.Equality.{exprEq}
 use Rattle.reserves.specs.Reserves.{guardedField, guardedAmount, lowers}
-use Rattle.reserves.specs.Asked.{askedAmounts}
+use Rattle.reserves.specs.Asked.{inflowAmounts}
 
 -- a guard's expression bounds one of the amounts that are asked for by a state field, which some statement of the body lowers
 -- by that amount
@@ -45,8 +45,8 @@ numbersAt model amounts entry p =
 unfoldable pub candidateNumbers : Fields → List Field → Placed → List ℕ
 candidateNumbers model amounts entry = flatMap (numbersAt model amounts (entry .this)) (placedParts entry)
 
--- a table holds them all, in front, for the payouts that ask
+-- a table holds them all, in front, for the payouts that ask for an amount that a state field can cover
 pub record Candidates (file : List ℕ) (place : ℕ) (asked : List ℕ) (askedCount : ℕ) (table : List ℕ) (count : ℕ) : Type 0 where
   pub room : askedCount ≤ length asked
-  pub all : take count table ≡ candidateNumbers (fields file) (askedAmounts file asked askedCount) (placedAt file place)
-  pub many : count ≡ length (candidateNumbers (fields file) (askedAmounts file asked askedCount) (placedAt file place))
+  pub all : take count table ≡ candidateNumbers (fields file) (inflowAmounts file place asked askedCount) (placedAt file place)
+  pub many : count ≡ length (candidateNumbers (fields file) (inflowAmounts file place asked askedCount) (placedAt file place))

@@ -1,6 +1,7 @@
 // SPDX-License-Identifier: Apache-2.0 OR MIT
 // The guards of an entry that can matter for one of the payouts at the places of a table: listed once, so that a payout takes
 // time by their number. A payout's amount that equals a guard's is lowered exactly if the guard's is.
+use super::contained::list_asking;
 use super::guarded::guarded_amount;
 use super::guarded::guarded_field;
 use super::lowering::is_lowered;
@@ -18,14 +19,16 @@ use fields::front::tag_of;
 use fields::table::note;
 use model::name_of;
 use tags::GUARD;
+use tags::SET;
 use tags::STATE;
+use tags::SUBTRACT_FROM;
 ghost use mathlib.Core.Path.{_≡_};
 ghost use Prim.Native.Nat.{_≤_};
 ghost use lib.ListN.{length, drop};
 ghost use Rattle.fields.specs.Field.{fields, front};
 ghost use Rattle.fields.specs.Table.{Listed, Room};
 ghost use Rattle.walking.specs.Table.{placedAt};
-ghost use Rattle.reserves.specs.Asked.{askedAmounts};
+ghost use Rattle.reserves.specs.Asked.{askedAmounts, inflowAmounts};
 ghost use Rattle.reserves.specs.Lowerings.{LoweringsOf};
 ghost use Rattle.reserves.specs.Candidates.{stateNumber, countedNumber, numbersAt, candidateNumbers};
 
@@ -163,9 +166,9 @@ fn list_guards_of_many(
     list_guards(file, place, asked, count, &lowerings, lowering_count, table)
 }
 
-// The same with the lowerings yet to be listed. Most entries have none, and then no guard counts. Almost all have few, so a
-// small table is tried first, which takes less time to clear.
-pub fn list_candidates(
+// The same with the lowerings yet to be listed. Many entries have none, and then no guard counts. Almost all have few, so a small
+// table is tried first, which takes less time to clear.
+fn list_lowered_guards(
     file: &[u8],
     place: usize,
     asked: &[u16],
@@ -185,4 +188,28 @@ pub fn list_candidates(
         return list_guards_of_many(file, place, asked, count, table);
     }
     list_guards(file, place, asked, count, &lowerings, lowering_count, table)
+}
+
+// The same for those of at most 64 payouts whose amount contains an asset parameter's `p.amount`. No state field covers another,
+// and many guards and lowerings of other amounts would be compared for nothing. An entry that assigns nothing lowers nothing, and
+// then the amounts need not be looked into.
+pub fn list_candidates(
+    file: &[u8],
+    place: usize,
+    asked: &[u16],
+    count: usize,
+    table: &mut [u16],
+) -> usize
+    requires short { ⌜ length (now file) ≤ 32768 ⌝ }
+    requires room { ⌜ count ≤ length (now asked) ⌝ }
+    requires few { ⌜ count ≤ 64 ⌝ }
+    ensures { λ r. ⌜ Listed (candidateNumbers (fields (now (file .entry))) (inflowAmounts (now (file .entry)) place (now (asked .entry)) count) (placedAt (now (file .entry)) place)) (now (table .entry)) 0 (now (table .exit)) r ⌝ }
+{
+    let parts = parts_of(skip(file, place));
+    if !is_whole(first_from(parts, SET, SUBTRACT_FROM)) {
+        return 0;
+    }
+    let mut asking = [0u16; 64];
+    let asking_count = list_asking(file, place, asked, count, &mut asking);
+    list_lowered_guards(file, place, &asking, asking_count, table)
 }

@@ -1,7 +1,9 @@
 // SPDX-License-Identifier: Apache-2.0 OR MIT
-// Whether an amount contains the amount of an asset parameter.
+// Whether an amount contains the amount of an asset parameter, and the payouts whose amount does.
+use super::payout::asked_amount;
 use fields::bytes::skip;
 use fields::front::tag_of;
+use fields::table::note;
 use fields::table::number_at;
 use tags::MEMBER;
 use tags::is_expression;
@@ -9,11 +11,13 @@ use tokens::inflow::is_inflow;
 use walking::parameters::has_asset_parameter;
 use walking::walk::list_expression;
 ghost use mathlib.Core.Path.{_≡_};
-ghost use Prim.Native.Nat.{_≤_};
+ghost use Prim.Native.Nat.{_≤_, _<_};
 ghost use lib.ListN.{length};
 ghost use Rattle.fields.specs.Field.{front};
+ghost use Rattle.fields.specs.Table.{Listed};
 ghost use Rattle.reserves.specs.Reserves.{containsInflow};
 ghost use Rattle.reserves.specs.Members.{MembersOf, memberInflow};
+ghost use Rattle.reserves.specs.Asked.{askingPlaces};
 
 // Whether one of the members in the expression at the front of amount, all of which a table has, is an asset parameter's
 // `p.amount`.
@@ -57,4 +61,37 @@ pub fn contains_inflow(entry: &[u8], amount: &[u8]) -> bool
         return has_inflow_of_many(entry, amount);
     }
     has_inflow(entry, amount, &members, count)
+}
+
+// A number of a table, which has two bytes, as one that can be noted.
+fn wide(number: u16) -> usize
+    ensures same { λ r. ⌜ r ≡ number ⌝ }
+    ensures small { λ r. ⌜ r < 65536 ⌝ }
+{
+    number as usize
+}
+
+// Lists those of the first payouts of a table whose amount contains one of the entry at a place of the file, as far as the other
+// table has room, and answers how many there are.
+pub fn list_asking(
+    file: &[u8],
+    place: usize,
+    asked: &[u16],
+    count: usize,
+    table: &mut [u16],
+) -> usize
+    requires short { ⌜ length (now file) ≤ 32768 ⌝ }
+    requires room { ⌜ count ≤ length (now asked) ⌝ }
+    ensures listed { λ r. ⌜ Listed (askingPlaces (now (file .entry)) place (now (asked .entry)) count) (now (table .entry)) 0 (now (table .exit)) r ⌝ }
+    ensures few { λ r. ⌜ r ≤ count ⌝ }
+{
+    let entry = skip(file, place);
+    let mut i = 0;
+    let mut n = 0;
+    while i < count {
+        let asks = contains_inflow(entry, asked_amount(file, asked, i));
+        n = note(asks, wide(asked[i]), table, n);
+        i += 1;
+    }
+    n
 }

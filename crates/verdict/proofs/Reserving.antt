@@ -94,8 +94,11 @@ module _ (file : List ℕ) (short : length file ≤ 32768) (place : ℕ) (inside
         wanted-read file place true (omega (arith, l .small)) calls count (l .listed) zeros table m p (omega (arith, few, calls-fit, same, long, wide))
         ∙ payouts-wanted (placedAt file place)
 
-    pub payouts-fit : m ≤ length table
+    payouts-fit : m ≤ length table
     payouts-fit = table-long file place table m read counted
+
+    pub payout-among : (k : ℕ) → k < m → k < length table
+    payout-among k h = omega (arith, payouts-fit)
 
     pub payout-found : (k : ℕ) → k < m → (r : Reserve) → r ≡ reserveOf model (reserveBoundingPayout model (front (drop place file)) (askedAmount file table k) (askedToken file table k)) →
         r ≡ reserveOf model (payoutReserve model entry k)

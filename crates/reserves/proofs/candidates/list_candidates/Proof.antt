@@ -1,7 +1,8 @@
--- Without lowerings no guard counts. The small table has all where the count says so, and for the other entries there is the
--- large one.
+-- Where nothing is assigned no guard counts. Else the payouts whose amounts contain what comes in are all in the small table, and
+-- they are the ones that matter.
 use borrow.Author.Needs.{needs}
-use Rattle.reserves.proofs.Lowerings.{lowerings-listed, no-candidates}
+use Rattle.reserves.proofs.Asking.{asking-listed}
+use Rattle.reserves.proofs.Lowerings.{none-assigned}
 use Rattle.reserves.proofs.candidates.list_candidates.Statement.{statement}
 use Rattle.reserves.proofs.candidates.list_candidates.Tie as tie
 
@@ -10,13 +11,13 @@ list-candidates-spec =
     tie.close
     (tie.spec
     (λ c κs. search needs)  -- skip-requires
-    (λ c. search needs)  -- slice-aggregate-list-lowerings
-    (λ c κs. search needs)  -- list-lowerings-requires
-    (λ c. search (no-candidates, needs))  -- returns
-    (λ c κs. search needs)  -- list-guards-of-many-requires
+    (λ c κs. search needs)  -- parts-of-requires
+    (λ c κs. search needs)  -- first-from-requires
+    (λ c κs. search needs)  -- is-whole-requires
+    (λ c. search none-assigned)  -- returns
+    (λ c. search needs)  -- slice-aggregate-list-asking
+    (λ c κs. search needs)  -- list-asking-requires
+    (λ c. search needs)  -- slice-aggregate-list-lowered-guards
+    (λ c κs. search needs)  -- list-lowered-guards-requires
     (λ c. search needs)  -- same-length
-    (λ c. search needs)  -- returns-2
-    (λ c. search needs)  -- slice-aggregate-list-guards
-    (λ c κs. (search needs, search (lowerings-listed, needs)))  -- list-guards-requires
-    (λ c. search needs)  -- same-length-2
-    (λ c. search needs))  -- returns-3
+    (λ c. search (asking-listed, needs)))  -- returns-2

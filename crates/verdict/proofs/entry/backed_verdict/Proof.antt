@@ -37,7 +37,7 @@ backed-verdict-spec =
     ))  -- returns-3
     (λ c. search needs)  -- slice-aggregate-list-parameters
     (λ c κs. debits-standing _ _ _ _ (c .before .before .before .before .before .before .before .before .before .before .before .before .before .before .before .before .before .pre .0) _ _ (c .before .before .before .before .before .before .before .before .before .before .before .before .before .before .before .before .before .pre .1 .1 .0) _ _ _ (c .before .before .before .before .before .before .before .before .choose .ensures) _ (c .before .before .before .before .before .before .skip .ensures) _ (c .before .before .before .before .before .count-asset-parameters .ensures) (search (told, needs)))  -- list-parameters-requires
-    (λ c κs. payouts-room _ _ _ _ (c .before .before .before .before .before .before .before .before .before .before .before .before .before .before .before .before .before .before .before .before .pre .1 .1 .0))  -- list-candidates-requires
+    (λ c κs. (c .before .before .before .before .before .before .before .before .before .before .before .before .before .before .before .before .before .before .before .before .pre .0 .small, (payouts-room _ _ _ _ (c .before .before .before .before .before .before .before .before .before .before .before .before .before .before .before .before .before .before .before .before .pre .1 .1 .0), c .before .before .before .before .before .before .before .before .before .before .before .before .before .before .before .before .before .before .before .before .pre .1 .1 .0 .few)))  -- list-candidates-requires
     (λ c κs. (c .before .before .before .before .before .before .before .before .before .before .before .before .before .before .before .before .before .before .before .before .before .before .before .before .before .pre .0 .small, c .before .before .before .before .before .before .before .before .before .before .before .before .before .before .before .before .before .before .before .before .before .before .before .before .before .pre .1 .1 .1 .0))  -- list-if-asked-requires
     (λ c. search needs)  -- slice-aggregate-match-payouts
     (λ c κs. (
