@@ -8,7 +8,7 @@ use lib.ListN.{length, getD, take, drop, length-drop}
 use lib.Seq.{getD-drop}
 use Rattle.fields.specs.Field.{fields}
 use Rattle.fields.proofs.Slices.{drop-rest}
-use Rattle.tokens.proofs.Entering.{fundings-unlisted}
+use Rattle.fundings.proofs.Entering.{fundings-unlisted}
 use Rattle.reserves.specs.Reserves.{reserveBoundingPayout}
 use Rattle.reserves.specs.Asked.{askedToken, askedAmount}
 use Rattle.reserves.specs.Covers.{reserveOf}
