@@ -12,7 +12,7 @@ use Rattle.fields.specs.Field.{Field, front}
 use Rattle.walking.specs.Walking.{peel}
 use Rattle.equality.specs.Equality.{exprEq}
 use Rattle.bounds.specs.Bounds.{boundedByBacking}
-use Rattle.reserves.specs.Payouts.{payoutAmount}
+use Rattle.guards.specs.Payouts.{payoutAmount}
 use Rattle.backings.specs.Numbers.{firstFrom, downFrom, markIs}
 use Rattle.backings.specs.Marked.{markAt, usedAt, without, withUsed}
 use Rattle.backings.specs.Tables.{Tabled, Named, amountAt, matches, passesBy}

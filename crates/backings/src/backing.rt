@@ -8,8 +8,8 @@ use fields::front::part_of;
 use fields::table::number_at;
 use fundings::ledger::NOT_LISTED;
 use fundings::ledger::funding_token;
+use guards::payout::payout_token;
 use model::name_of;
-use reserves::payout::payout_token;
 use tokens::number::token_of;
 use tokens::number::tokens_number;
 use tokens::set::tokens_differ;
@@ -27,7 +27,7 @@ ghost use Rattle.bounds.specs.Bounds.{boundedByBacking};
 ghost use Rattle.bounds.specs.Backing.{backingField};
 ghost use Rattle.tokens.specs.Tokens.{differ, admittedInflowToken};
 ghost use Rattle.fundings.specs.Fundings.{Fundings};
-ghost use Rattle.reserves.specs.Payouts.{payoutToken};
+ghost use Rattle.guards.specs.Payouts.{payoutToken};
 ghost use Rattle.backings.specs.Tables.{Named, Admitted, amountAt, tokenAt};
 
 // The amount, peeled, of the debit at the front of s.

@@ -2,7 +2,7 @@
 // Which backings are free, and which reserves are used: a state by value, which each payout hands back.
 use super::backing::backing_bounds;
 use super::backing::backing_equals;
-use reserves::payout::payout_amount;
+use guards::payout::payout_amount;
 use walking::peel::peel;
 ghost use mathlib.Core.Path.{_≡_};
 ghost use mathlib.Core.Bool.{_&&_};
@@ -10,7 +10,7 @@ ghost use Prim.Native.Nat.{_+_};
 ghost use lib.Dec.{eqb};
 ghost use Rattle.fields.specs.Lists.{any};
 ghost use Rattle.fields.specs.Field.{front};
-ghost use Rattle.reserves.specs.Payouts.{payoutAmount};
+ghost use Rattle.guards.specs.Payouts.{payoutAmount};
 ghost use Rattle.backings.specs.Numbers.{firstFrom, downFrom, markIs};
 ghost use Rattle.backings.specs.Tables.{Tabled, Named, amountAt, matches, passes};
 ghost use Rattle.backings.specs.Marked.{allFree, markAt, usedAt, without, withUsed};

@@ -20,8 +20,8 @@ use Rattle.walking.specs.Walking.{peel, receiver, debits, assetParams}
 use Rattle.equality.specs.Amount.{amountOf}
 use Rattle.tokens.specs.Tokens.{admittedInflowToken}
 use Rattle.fundings.specs.FundingTokens.{fundingToken}
+use Rattle.guards.specs.Payouts.{payoutToken, payoutAmount}
 use Rattle.reserves.specs.Reserves.{reserveCovers, reserveBoundingPayout}
-use Rattle.reserves.specs.Payouts.{payoutToken, payoutAmount}
 use Rattle.matching.specs.Matching.{Cover, Source, Backing, Marks, debit, parameter, debitBackings, parameterBackings, backings, equals, bounds, equalCover, boundingCover}
 use Rattle.matching.proofs.Truths.{and-both, or-right}
 use Rattle.matching.proofs.Finding.{any-implied, any-found, any-taken, find-passes}

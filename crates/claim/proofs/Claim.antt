@@ -11,7 +11,7 @@ use Rattle.fields.specs.Lists.{any}
 use Rattle.fields.specs.Field.{Field, Fields, fields}
 use Rattle.walking.specs.Walking.{payouts}
 use Rattle.tokens.specs.Tokens.{differ}
-use Rattle.reserves.specs.Payouts.{payoutToken}
+use Rattle.guards.specs.Payouts.{payoutToken}
 use Rattle.matching.specs.Matching.{Cover, backings, equalCover, start}
 use Rattle.matching.specs.Matching.Cover.{reserve}
 use Rattle.claim.specs.Verdict.{Verdict, accepted, matching, entryAt, entryVerdict, verdict, kind, index, written}

@@ -10,7 +10,7 @@ use mathlib.Core.Option.{Option, none, some}
 use lib.ListN.{length, getD, getElem?, take, drop}
 use Rattle.fields.specs.Lists.{any, filter, find, removeFirst}
 use Rattle.fields.specs.Field.{Field, Fields, nothing}
-use Rattle.reserves.specs.Payouts.{payoutAmount}
+use Rattle.guards.specs.Payouts.{payoutAmount}
 use Rattle.matching.specs.Matching.{Cover, Backing, Marks, equals, bounds, equalCover, takeBacking, byEqual, answer}
 use Rattle.matching.specs.Matching.Answer.{cover}
 use Rattle.matching.proofs.Truths.{or-move}

@@ -17,8 +17,8 @@ use Rattle.questions.specs.Questions.{passes, askFile}
 use Rattle.walking.specs.Walking.{peel, payouts}
 use Rattle.equality.specs.Equality.{exprEq}
 use Rattle.tokens.specs.Tokens.{differ}
+use Rattle.guards.specs.Payouts.{payoutToken, payoutAmount}
 use Rattle.reserves.specs.Reserves.{reserveCovers}
-use Rattle.reserves.specs.Payouts.{payoutToken, payoutAmount}
 use Rattle.matching.specs.Matching.{Cover, Source, Backing, debitBackings, parameterBackings, equals, bounds}
 use Rattle.matching.specs.Matching.Source.{debit, parameter}
 use Rattle.claim.specs.Verdict.{Verdict, accepted, matching, entryAt, askEntry, verdict, written}

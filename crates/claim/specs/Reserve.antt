@@ -4,8 +4,8 @@ use mathlib.Core.List.{List}
 use mathlib.Core.Option.{Option}
 use Rattle.fields.specs.Field.{Field, Fields}
 use Rattle.walking.specs.Walking.{peel}
+use Rattle.guards.specs.Payouts.{payoutToken, payoutAmount}
 use Rattle.reserves.specs.Reserves.{reserveBoundingPayout}
-use Rattle.reserves.specs.Payouts.{payoutToken, payoutAmount}
 use Rattle.claim.specs.Claim.{payoutAt}
 
 -- that of the k-th payout of an entry, counted from 0; a payout that is not there asks for no token, and has none

@@ -11,7 +11,7 @@ use Rattle.fields.specs.Field.Field.{field}
 use Rattle.walking.specs.Walking.{peel, peelFirst, present}
 use Rattle.equality.specs.Equality.{exprEq, sameText}
 use Rattle.equality.proofs.Equality.{equal-in, expr-symmetric, expr-transitive}
-use Rattle.reserves.specs.Payouts.{payoutAmount}
+use Rattle.guards.specs.Payouts.{payoutAmount}
 use Rattle.matching.specs.Matching.{Backing, equals}
 use Rattle.matching.proofs.Truths.{agree, refuted}
 

@@ -13,13 +13,13 @@ use Rattle.model.specs.Model.{stateNames}
 use Rattle.walking.specs.Walking.{peel, present}
 use Rattle.equality.specs.Equality.{exprEq}
 use Rattle.tokens.specs.Tokens.{differ}
+use Rattle.guards.specs.Payouts.{payoutToken, payoutAmount}
+use Rattle.guards.specs.Asked.{askedToken, paidAt, askedAmount}
 use Rattle.reserves.specs.Reserves.{reserveBoundingPayout}
 use Rattle.reserves.specs.Candidates.{stateIndex}
 use Rattle.reserves.specs.Covers.{reserveOf}
 use Rattle.reserves.specs.declared.covering.Reserve.{Reserve as Reserved}
 use Rattle.reserves.specs.declared.covering.Reserve.the-variants.{Covers, Nothing}
-use Rattle.reserves.specs.Payouts.{payoutToken, payoutAmount}
-use Rattle.reserves.specs.Asked.{askedToken, paidAt, askedAmount}
 use Rattle.backings.specs.Numbers.{firstFrom, downFrom}
 use Rattle.backings.specs.Marked.{usedAt}
 use Rattle.backings.specs.Tables.{Tabled, entryOf, tokenAt, matches, passes}

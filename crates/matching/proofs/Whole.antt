@@ -13,8 +13,8 @@ use Rattle.fields.specs.Field.{Field, Fields, fields, front}
 use Rattle.model.specs.Model.{stateNames}
 use Rattle.walking.specs.Walking.{peel, present}
 use Rattle.tokens.specs.Tokens.{differ}
+use Rattle.guards.specs.Payouts.{payoutToken, payoutAmount}
 use Rattle.reserves.specs.Reserves.{reserveBoundingPayout}
-use Rattle.reserves.specs.Payouts.{payoutToken, payoutAmount}
 use Rattle.backings.specs.Numbers.{firstFrom}
 use Rattle.backings.specs.Marked.{without, withUsed}
 use Rattle.backings.specs.Tables.{Tabled, entryOf, matches, passes}

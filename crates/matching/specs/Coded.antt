@@ -9,7 +9,7 @@ use Rattle.fields.specs.Lists.{any, find}
 use Rattle.fields.specs.Field.{Field, Fields}
 use Rattle.walking.specs.Walking.{peel, present}
 use Rattle.equality.specs.Equality.{exprEq}
-use Rattle.reserves.specs.Payouts.{payoutAmount}
+use Rattle.guards.specs.Payouts.{payoutAmount}
 use Rattle.backings.specs.Marked.{usedAt, without, withUsed}
 use Rattle.backings.specs.Numbers.{downFrom}
 use Rattle.backings.specs.declared.marks.Marks.{Marks as Coded}

@@ -13,8 +13,8 @@ use Rattle.equality.specs.Amount.{amountOf}
 use Rattle.bounds.specs.Bounds.{boundedByBacking}
 use Rattle.tokens.specs.Tokens.{admittedInflowToken, differ}
 use Rattle.fundings.specs.FundingTokens.{fundingToken}
+use Rattle.guards.specs.Payouts.{payoutToken, payoutAmount}
 use Rattle.reserves.specs.Reserves.{reserveBoundingPayout}
-use Rattle.reserves.specs.Payouts.{payoutToken, payoutAmount}
 
 -- a cover is one of five kinds, with an index among debits, asset parameters or state fields
 pub data Cover : Type 0 where

@@ -25,10 +25,12 @@ use Rattle.walking.specs.Table.{placedAt}
 use Rattle.equality.specs.Equality.{exprEq}
 use Rattle.equality.proofs.Equality.{nothing-right}
 use Rattle.raises.specs.Raises.{assigns}
-use Rattle.reserves.specs.Reserves.{guardedField, guardedAmount, containsWrapping, loweredBy, lowers}
-use Rattle.reserves.specs.Asked.{inflowAmounts}
+use Rattle.guards.specs.Guards.{guardedField, guardedAmount, containsWrapping, loweredBy, lowers}
+use Rattle.guards.specs.Asked.{askedAmounts, inflowAmounts, askingPlaces}
 use Rattle.reserves.specs.Candidates.{counts, stateIndex, countedNumber, numbersAt, candidateNumbers, Candidates}
-use Rattle.reserves.proofs.General.{any-none, position-inside, size-least, row-few}
+use Rattle.guards.proofs.Asking.{asking-read}
+use Rattle.guards.proofs.General.{any-none, size-least}
+use Rattle.reserves.proofs.General.{position-inside, row-few}
 
 -- What is missing does not count
 
@@ -230,3 +232,9 @@ candidates-read file h amounts place = go (whole (drop place file)) refl
           length-drop place file,
         ))
     go false w = rw (front-none (drop place file) w)
+
+-- The guards for the payouts that were listed are those for the amounts that a state field can cover
+pub asking-listed : (file : List ℕ) (place : ℕ) (asked : List ℕ) (count : ℕ) (table last : List ℕ) (n : ℕ) → Listed (askingPlaces file place asked count) table 0 last n →
+    n ≤ count → count ≤ 64 → length table ≡ 64 → (t u : List ℕ) (r : ℕ) → Listed (candidateNumbers (fields file) (askedAmounts file last n) (placedAt file place)) t 0 u r →
+    Listed (candidateNumbers (fields file) (inflowAmounts file place asked count) (placedAt file place)) t 0 u r
+asking-listed file place asked count table last n p h few wide t u r l = rw (← asking-read file place asked count table last n p h few wide) l

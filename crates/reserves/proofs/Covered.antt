@@ -20,32 +20,20 @@ use Rattle.model.specs.Model.{stateNames, body}
 use Rattle.walking.specs.Walking.{guards}
 use Rattle.walking.specs.Table.{placedAt}
 use Rattle.equality.specs.Equality.{exprEq}
-use Rattle.equality.proofs.Equality.{expr-symmetric, expr-transitive}
 use Rattle.reserve_tokens.specs.ReserveTokens.{reserveToken}
-use Rattle.reserves.specs.Reserves.{containsInflow, guardedField, guardedAmount, guardedBy, loweredBy, lowers, reserveCovers, reserveBoundingPayout}
+use Rattle.guards.specs.Guards.{containsInflow, guardedField, guardedAmount, guardedBy, lowers}
+use Rattle.reserves.specs.Reserves.{reserveCovers, reserveBoundingPayout}
 use Rattle.reserves.specs.Candidates.{counts, stateIndex, candidateNumbers}
-use Rattle.reserves.specs.Asked.{askedToken, askedAmount, askedAmounts, inflowAmounts}
+use Rattle.guards.specs.Asked.{askedToken, askedAmount, askedAmounts, inflowAmounts}
 use Rattle.reserves.specs.Holding.{stateName, isToken, holdsToken}
 use Rattle.reserves.specs.Covers.{reserveOf, amountAt, equalFrom}
-use Rattle.reserves.proofs.General.{or-right, any-same, any-filter, find-none, find-same, every-weaker}
-use Rattle.reserves.proofs.Paid.{asked-among}
+use Rattle.guards.proofs.General.{or-right, any-same, any-filter}
+use Rattle.reserves.proofs.General.{find-none, find-same, every-weaker}
+use Rattle.guards.proofs.Paid.{asked-among}
+use Rattle.guards.proofs.Lowerings.{lowers-same}
 use Rattle.reserves.proofs.Counting.{exactAt, candidates-read}
 use Rattle.reserves.specs.declared.covering.Reserve.{Reserve}
 use Rattle.reserves.specs.declared.covering.Reserve.the-variants.{Covers, Nothing}
-
--- Equal amounts are lowered by the same assignments
-
-pub equal-same : (x a b : Field) → exprEq a b ≡ true → exprEq x a ≡ exprEq x b
-equal-same x a b e = go (exprEq x a) (exprEq x b) refl refl
-  where
-    go : (i j : Bool) → exprEq x a ≡ i → exprEq x b ≡ j → exprEq x a ≡ exprEq x b
-    go true j p q = p ∙ sym (expr-transitive x a b p e)
-    go false true p q = expr-transitive x b a q (sym (expr-symmetric a b) ∙ e) ∙ sym q
-    go false false p q = p ∙ sym q
-
-lowers-same : (a b : Field) → exprEq a b ≡ true → (r : List ℕ) (s : Field) → lowers a r s ≡ lowers b r s
-unfolding lowers
-lowers-same a b e r s = rw (equal-same (loweredBy r s) a b e)
 
 -- A state field by its number
 

@@ -16,7 +16,8 @@ use Rattle.equality.specs.Equality.{exprEq, partsEq, strip, sameText}
 use Rattle.tokens.specs.Tokens.{single, besideInAsset, isInflow, isCredit}
 use Rattle.raises.specs.Raises.{assigns, value, setsFrom, isZero, defaults, genesisValues, startsAtZero, raise, raises}
 use Rattle.reserve_tokens.specs.ReserveTokens.{credited, guardToken, guardTokens, only, debitToken, raiseToken, raiseTokens, reserveToken}
-use Rattle.reserves.specs.Reserves.{containsInflow, guardedField, guardedAmount, guardedBy, containsWrapping, loweredBy, lowers, reserveCovers, reserveBoundingPayout}
+use Rattle.guards.specs.Guards.{containsInflow, guardedField, guardedAmount, guardedBy, containsWrapping, loweredBy, lowers}
+use Rattle.reserves.specs.Reserves.{reserveCovers, reserveBoundingPayout}
 use Rattle.reserves.specs.Candidates.{counts, stateIndex, numbersAt, candidateNumbers}
 
 abbrev r : List ℕ

@@ -1,11 +1,8 @@
 pub mod General
-pub mod Members
-pub mod Paid
-pub mod Asking
 pub mod Pairs
 pub mod Remembering
 pub mod Counting
 pub mod Covered
-pub mod Lowerings
+pub mod Unlowered
 pub mod Searching
 pub mod Examples

@@ -7,7 +7,7 @@ use lib.ListN.{getD, set, replicate}
 use Rattle.fields.specs.Field.{fields}
 use Rattle.tokens.specs.Numbers.{tokenOf}
 use Rattle.reserve_tokens.specs.ReserveTokens.{reserveToken}
-use Rattle.reserves.specs.Asked.{askedToken}
+use Rattle.guards.specs.Asked.{askedToken}
 use Rattle.reserves.specs.Holding.{stateName, isToken, holdsToken, Right}
 
 -- what holds of a table's number holds after another was written, if it holds of that one too

@@ -11,8 +11,8 @@ use lib.ListN.{length, getD, take, drop, length-drop, length-take, drop-of-lengt
 use lib.Seq.{length-take-le}
 use Rattle.fields.specs.Field.{Field, front}
 use Rattle.equality.specs.Equality.{exprEq}
-use Rattle.reserves.specs.Reserves.{containsInflow}
-use Rattle.reserves.specs.Asked.{askedAmount}
+use Rattle.guards.specs.Guards.{containsInflow}
+use Rattle.guards.specs.Asked.{askedAmount}
 use Rattle.reserves.specs.Candidates.{Candidates}
 use Rattle.reserves.specs.Holding.{holdsToken, Right}
 use Rattle.reserves.specs.Covers.{amountAt, equalFrom}

@@ -11,8 +11,8 @@ use Rattle.fields.specs.Field.{Field, Fields, Placed, fields, tag, part, placed
 use Rattle.model.specs.Model.{stateNames, body}
 use Rattle.walking.specs.Table.{placedAt}
 use Rattle.equality.specs.Equality.{exprEq}
-use Rattle.reserves.specs.Reserves.{guardedField, guardedAmount, lowers}
-use Rattle.reserves.specs.Asked.{inflowAmounts}
+use Rattle.guards.specs.Guards.{guardedField, guardedAmount, lowers}
+use Rattle.guards.specs.Asked.{inflowAmounts}
 
 -- a guard's expression bounds one of the amounts that are asked for by a state field, which some statement of the body lowers
 -- by that amount

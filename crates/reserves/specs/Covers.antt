@@ -6,7 +6,7 @@ use mathlib.Core.Option.{Option, none, some}
 use lib.ListN.{drop}
 use Rattle.fields.specs.Field.{Field, Fields, front, part}
 use Rattle.equality.specs.Equality.{exprEq}
-use Rattle.reserves.specs.Reserves.{guardedAmount}
+use Rattle.guards.specs.Guards.{guardedAmount}
 use Rattle.reserves.specs.Candidates.{stateIndex}
 use Rattle.reserves.specs.declared.covering.Reserve.{Reserve}
 use Rattle.reserves.specs.declared.covering.Reserve.the-variants.{Covers, Nothing}

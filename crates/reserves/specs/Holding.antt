@@ -9,7 +9,7 @@ use Rattle.fields.specs.Field.{fields}
 use Rattle.model.specs.Model.{stateNames}
 use Rattle.tokens.specs.Numbers.{tokenOf}
 use Rattle.reserve_tokens.specs.ReserveTokens.{reserveToken}
-use Rattle.reserves.specs.Asked.{askedToken}
+use Rattle.guards.specs.Asked.{askedToken}
 
 -- the name of the i-th state field
 unfoldable pub stateName : List ℕ → ℕ → List ℕ

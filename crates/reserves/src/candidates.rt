@@ -1,12 +1,6 @@
 // SPDX-License-Identifier: Apache-2.0 OR MIT
 // The guards of an entry that can matter for one of the payouts at the places of a table: listed once, so that a payout takes
 // time by their number. A payout's amount that equals a guard's is lowered exactly if the guard's is.
-use super::contained::list_asking;
-use super::guarded::guarded_amount;
-use super::guarded::guarded_field;
-use super::lowering::is_lowered;
-use super::lowering::list_lowerings;
-use super::payout::is_asked;
 use fields::bytes::same_bytes;
 use fields::bytes::skip;
 use fields::front::after_front;
@@ -17,6 +11,12 @@ use fields::front::part_of;
 use fields::front::parts_of;
 use fields::front::tag_of;
 use fields::table::note;
+use guards::contained::list_asking;
+use guards::guarded::guarded_amount;
+use guards::guarded::guarded_field;
+use guards::lowering::is_lowered;
+use guards::lowering::list_lowerings;
+use guards::payout::is_asked;
 use model::name_of;
 use tags::GUARD;
 use tags::SET;
@@ -28,8 +28,8 @@ ghost use lib.ListN.{length, drop};
 ghost use Rattle.fields.specs.Field.{fields, front};
 ghost use Rattle.fields.specs.Table.{Listed, Room};
 ghost use Rattle.walking.specs.Table.{placedAt};
-ghost use Rattle.reserves.specs.Asked.{askedAmounts, inflowAmounts};
-ghost use Rattle.reserves.specs.Lowerings.{LoweringsOf};
+ghost use Rattle.guards.specs.Asked.{askedAmounts, inflowAmounts};
+ghost use Rattle.guards.specs.Lowerings.{LoweringsOf};
 ghost use Rattle.reserves.specs.Candidates.{stateNumber, countedNumber, numbersAt, candidateNumbers};
 
 // The number of the first state field of that name, counted from 1; 0 where none has it.

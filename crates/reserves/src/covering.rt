@@ -1,13 +1,13 @@
 // SPDX-License-Identifier: Apache-2.0 OR MIT
 // The state field that covers a payout.
-use super::contained::contains_inflow;
-use super::guarded::guarded_amount;
 use super::holding::holds_token;
-use super::payout::asked_amount;
 use equality::expr_eq;
 use fields::bytes::skip;
 use fields::front::part_of;
 use fields::table::number_at;
+use guards::contained::contains_inflow;
+use guards::guarded::guarded_amount;
+use guards::payout::asked_amount;
 ghost use mathlib.Core.Path.{_≡_};
 ghost use Prim.Native.Nat.{_≤_, _<_};
 ghost use lib.ListN.{length, take, drop};
@@ -15,7 +15,7 @@ ghost use Rattle.fields.specs.Field.{fields, front};
 ghost use Rattle.fundings.specs.Fundings.{Fundings};
 ghost use Rattle.reserves.specs.Reserves.{reserveBoundingPayout};
 ghost use Rattle.reserves.specs.Candidates.{Candidates};
-ghost use Rattle.reserves.specs.Asked.{askedToken, askedAmount};
+ghost use Rattle.guards.specs.Asked.{askedToken, askedAmount};
 ghost use Rattle.reserves.specs.Holding.{Right};
 ghost use Rattle.reserves.specs.Covers.{reserveOf, amountAt, equalFrom};
 

@@ -1,10 +1,10 @@
 // SPDX-License-Identifier: Apache-2.0 OR MIT
 // Whether a state field holds a token that is asked for. A field's token is worked out once for all entries of a file and then
 // remembered, in a table that the caller lends, by its number: 0 it was not worked out, 1 the field holds none.
-use super::payout::asked_token;
 use fields::bytes::same_bytes;
 use fields::front::nth_from;
 use fields::table::number_at;
+use guards::payout::asked_token;
 use model::name_of;
 use reserve_tokens::reserve::reserve_number;
 use tags::STATE;

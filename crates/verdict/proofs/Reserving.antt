@@ -15,13 +15,14 @@ use Rattle.model.specs.Model.{entries, body, stateNames}
 use Rattle.model.specs.Shown.{shown}
 use Rattle.walking.specs.Walking.{peel, ident, bodyExprs, exprs, payouts}
 use Rattle.walking.specs.Table.{placedAt, placesOf}
-use Rattle.reserves.specs.Reserves.{reserveCovers, reserveBoundingPayout, containsInflow, guardedBy, lowers}
+use Rattle.guards.specs.Guards.{containsInflow, guardedBy, lowers}
+use Rattle.guards.specs.Payouts.{payoutToken}
+use Rattle.guards.specs.Asked.{askedToken, paidAt, askedAmount}
+use Rattle.reserves.specs.Reserves.{reserveCovers, reserveBoundingPayout}
 use Rattle.reserves.specs.Covers.{reserveOf}
 use Rattle.reserves.specs.declared.covering.Reserve.{Reserve}
 use Rattle.reserves.specs.declared.covering.Reserve.the-variants.{Nothing}
 use Rattle.reserves.proofs.General.{find-none}
-use Rattle.reserves.specs.Payouts.{payoutToken}
-use Rattle.reserves.specs.Asked.{askedToken, paidAt, askedAmount}
 use Rattle.backings.specs.Tables.{entryOf}
 use Rattle.verdict.specs.Calls.{wantedAt, chosenOf}
 use Rattle.claim.specs.Claim.{payoutAt}

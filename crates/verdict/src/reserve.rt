@@ -16,7 +16,7 @@ ghost use Prim.Native.Nat.{_≤_, _<_};
 ghost use lib.ListN.{length};
 ghost use Rattle.fields.specs.Field.{fields};
 ghost use Rattle.reserves.specs.Reserves.{reserveBoundingPayout};
-ghost use Rattle.reserves.specs.Asked.{askedToken, askedAmount};
+ghost use Rattle.guards.specs.Asked.{askedToken, askedAmount};
 ghost use Rattle.reserves.specs.Covers.{reserveOf};
 ghost use Rattle.backings.specs.Tables.{entryOf};
 ghost use Rattle.claim.specs.Verdict.{entryAt};

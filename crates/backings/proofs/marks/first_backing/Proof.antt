@@ -3,7 +3,7 @@ use Prim.Native.Nat.{_-_}
 use native.Mathlib.Omega.{arith}
 use borrow.Author.Needs.{needs}
 use Rattle.fields.specs.Field.{front}
-use Rattle.reserves.specs.Payouts.{payoutAmount}
+use Rattle.guards.specs.Payouts.{payoutAmount}
 use Rattle.backings.specs.Tables.{passesBy}
 use Rattle.backings.proofs.Marking.{Searching, searching-all, searching-none, searching-found, searching-on, passes-amount, tabled-named}
 use Rattle.backings.proofs.marks.first_backing.Statement.{statement}

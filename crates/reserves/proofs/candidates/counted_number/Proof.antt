@@ -10,10 +10,10 @@ use Rattle.fields.specs.Lists.{any}
 use Rattle.fields.specs.Field.{Field, Fields, front}
 use Rattle.model.specs.Model.{body}
 use Rattle.equality.specs.Equality.{exprEq}
-use Rattle.reserves.specs.Reserves.{guardedField, guardedAmount, lowers}
+use Rattle.guards.specs.Guards.{guardedField, guardedAmount, lowers}
 use Rattle.reserves.specs.Candidates.{counts, stateNumber, countedNumber}
-use Rattle.reserves.specs.Lowerings.{mayLower, fieldsAt, LoweringsOf}
-use Rattle.reserves.proofs.Lowerings.{lowerings-decide}
+use Rattle.guards.specs.Lowerings.{mayLower, fieldsAt, LoweringsOf}
+use Rattle.guards.proofs.Lowerings.{lowerings-decide}
 use Rattle.reserves.proofs.candidates.counted_number.Statement.{statement}
 use Rattle.reserves.proofs.candidates.counted_number.Tie as tie
 

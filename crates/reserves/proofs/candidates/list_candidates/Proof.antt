@@ -1,8 +1,8 @@
 -- Where nothing is assigned no guard counts. Else the payouts whose amounts contain what comes in are all in the small table, and
 -- they are the ones that matter.
 use borrow.Author.Needs.{needs}
-use Rattle.reserves.proofs.Asking.{asking-listed}
-use Rattle.reserves.proofs.Lowerings.{none-assigned}
+use Rattle.reserves.proofs.Counting.{asking-listed}
+use Rattle.reserves.proofs.Unlowered.{none-assigned}
 use Rattle.reserves.proofs.candidates.list_candidates.Statement.{statement}
 use Rattle.reserves.proofs.candidates.list_candidates.Tie as tie
 

@@ -16,9 +16,9 @@ use Rattle.fields.proofs.Reading.{front-none, after-less}
 use Rattle.fields.proofs.Tables.{listed-none}
 use Rattle.fields.proofs.Listing.{parts-shorter, along-fits, Listing, listing-all, listing-on, listing-done}
 use Rattle.walking.specs.Table.{placedAt}
-use Rattle.reserves.specs.Asked.{askedAmounts}
+use Rattle.guards.specs.Asked.{askedAmounts}
 use Rattle.reserves.specs.Candidates.{candidateNumbers}
-use Rattle.reserves.specs.Lowerings.{LoweringsOf}
+use Rattle.guards.specs.Lowerings.{LoweringsOf}
 use Rattle.reserves.proofs.Counting.{manyOf, candidate-row}
 use Rattle.reserves.proofs.candidates.list_guards.Statement.{statement}
 use Rattle.reserves.proofs.candidates.list_guards.Tie as tie

@@ -1,6 +1,6 @@
 -- The table has room for the lowerings of every entry.
 use borrow.Author.Needs.{needs}
-use Rattle.reserves.proofs.Lowerings.{lowerings-many}
+use Rattle.guards.proofs.Lowerings.{lowerings-many}
 use Rattle.reserves.proofs.candidates.list_guards_of_many.Statement.{statement}
 use Rattle.reserves.proofs.candidates.list_guards_of_many.Tie as tie
 

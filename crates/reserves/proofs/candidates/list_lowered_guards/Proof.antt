@@ -1,7 +1,8 @@
 -- Without lowerings no guard counts. The small table has all where the count says so, and for the other entries there is the
 -- large one.
 use borrow.Author.Needs.{needs}
-use Rattle.reserves.proofs.Lowerings.{lowerings-listed, no-candidates}
+use Rattle.guards.proofs.Lowerings.{lowerings-listed}
+use Rattle.reserves.proofs.Unlowered.{no-candidates}
 use Rattle.reserves.proofs.candidates.list_lowered_guards.Statement.{statement}
 use Rattle.reserves.proofs.candidates.list_lowered_guards.Tie as tie
 

@@ -5,7 +5,7 @@ use Prim.Native.Nat.{ℕ}
 use borrow.Author.Needs.{needs}
 use lib.ListN.{drop}
 use Rattle.fields.specs.Field.{front, part}
-use Rattle.reserves.specs.Reserves.{guardedAmount}
+use Rattle.guards.specs.Guards.{guardedAmount}
 use Rattle.reserves.specs.Covers.{amountAt}
 use Rattle.reserves.proofs.covering.amount_at.Statement.{statement}
 use Rattle.reserves.proofs.covering.amount_at.Tie as tie

@@ -10,7 +10,7 @@ use Rattle.fields.specs.Field.{fields}
 use Rattle.fields.proofs.Slices.{drop-rest}
 use Rattle.fundings.proofs.Entering.{fundings-unlisted}
 use Rattle.reserves.specs.Reserves.{reserveBoundingPayout}
-use Rattle.reserves.specs.Asked.{askedToken, askedAmount}
+use Rattle.guards.specs.Asked.{askedToken, askedAmount}
 use Rattle.reserves.specs.Covers.{reserveOf}
 use Rattle.reserves.specs.declared.covering.Reserve.{Reserve}
 use Rattle.reserves.proofs.Counting.{candidates-listed}

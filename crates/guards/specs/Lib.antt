@@ -1,0 +1,5 @@
+pub mod Payouts
+pub mod Guards
+pub mod Members
+pub mod Asked
+pub mod Lowerings
