@@ -10,9 +10,9 @@ use fields::front::part_of;
 use fields::front::parts_of;
 use fields::front::tag_of;
 use tags::ADD;
+use tags::ADD_TO;
 use tags::ENTRY;
-use tags::EXPRESSION_STATEMENT;
-use tags::GUARD;
+use tags::SET;
 use tags::SUB;
 use tags::SUBTRACT_FROM;
 use walking::peel::peel;
@@ -49,17 +49,18 @@ pub fn raised_by<'a>(name: &[u8], s: &'a [u8]) -> &'a [u8]
     value
 }
 
-// s from its first statement on that raises the state field; no whole field where there is none.
+// s from its first statement on that raises the state field; no whole field where there is none. The others are passed over by
+// their tags: only what sets or adds can raise.
 pub fn first_raise<'a>(s: &'a [u8], name: &[u8]) -> &'a [u8]
     ensures found { λ r. ⌜ filter (isRaise (now (name .entry))) (fieldsFrom Guard ExpressionStatement (fields (now (s .entry)))) ≡ raisesFrom (now (name .entry)) (now r) ⌝ }
     ensures within { λ r. ⌜ length (now r) ≤ length (now (s .entry)) ⌝ }
 {
-    let mut t = first_from(s, GUARD, EXPRESSION_STATEMENT);
+    let mut t = first_from(s, SET, ADD_TO);
     while is_whole(t) {
         if is_raise(name, t) {
             return t;
         }
-        let u = first_from(after_front(t), GUARD, EXPRESSION_STATEMENT);
+        let u = first_from(after_front(t), SET, ADD_TO);
         t = u;
     }
     t
