@@ -15,7 +15,7 @@ use Rattle.reserves.specs.Covers.{reserveOf}
 use Rattle.reserves.specs.declared.covering.Reserve.{Reserve}
 use Rattle.reserves.proofs.Counting.{candidates-listed}
 use Rattle.reserves.proofs.Remembering.{zeros-right}
-use Rattle.matching.specs.Tables.{entryOf}
+use Rattle.backings.specs.Tables.{entryOf}
 use Rattle.verdict.proofs.reserve.reserve_for.Statement.{statement}
 use Rattle.verdict.proofs.reserve.reserve_for.Tie as tie
 
