@@ -22,8 +22,10 @@ pub fn note(hit: bool, number: usize, table: &mut [u16], n: usize) -> usize
     n + 1
 }
 
-fn wide(number: u16) -> usize
-    ensures { λ r. ⌜ r ≡ number ⌝ }
+// A number of a table, as one that can be noted in another: it has two bytes.
+pub fn wide(number: u16) -> usize
+    ensures same { λ r. ⌜ r ≡ number ⌝ }
+    ensures small { λ r. ⌜ r < 65536 ⌝ }
 {
     number as usize
 }

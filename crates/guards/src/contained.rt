@@ -5,13 +5,14 @@ use fields::bytes::skip;
 use fields::front::tag_of;
 use fields::table::note;
 use fields::table::number_at;
+use fields::table::wide;
 use tags::MEMBER;
 use tags::is_expression;
 use tokens::inflow::is_inflow;
 use walking::parameters::has_asset_parameter;
 use walking::walk::list_expression;
 ghost use mathlib.Core.Path.{_≡_};
-ghost use Prim.Native.Nat.{_≤_, _<_};
+ghost use Prim.Native.Nat.{_≤_};
 ghost use lib.ListN.{length};
 ghost use Rattle.fields.specs.Field.{front};
 ghost use Rattle.fields.specs.Table.{Listed};
@@ -61,14 +62,6 @@ pub fn contains_inflow(entry: &[u8], amount: &[u8]) -> bool
         return has_inflow_of_many(entry, amount);
     }
     has_inflow(entry, amount, &members, count)
-}
-
-// A number of a table, which has two bytes, as one that can be noted.
-fn wide(number: u16) -> usize
-    ensures same { λ r. ⌜ r ≡ number ⌝ }
-    ensures small { λ r. ⌜ r < 65536 ⌝ }
-{
-    number as usize
 }
 
 // Lists those of the first payouts of a table whose amount contains one of the entry at a place of the file, as far as the other

@@ -50,6 +50,11 @@ pub fn samples() -> Vec<Sample> {
             "guards and lowerings of two amounts",
             largest(guards_and_lowerings_of_two),
         ),
+        sample(
+            "guards and lowerings of two inflows",
+            largest(guards_and_lowerings_of_inflows),
+        ),
+        sample("members and parameters", largest(members_and_parameters)),
         sample("state fields and guards", largest(states_and_guards)),
         sample(
             "conditions and parameters",
@@ -94,6 +99,30 @@ fn guards_and_lowerings_of_two(count: usize) -> Vec<Field> {
     let parts = fields[1].inner_mut().expect("entries have parts");
     parts.push(pays("T", identifier("m")));
     fields
+}
+
+/// The same with amounts that contain what came in, so that a state field may
+/// cover them.
+fn guards_and_lowerings_of_inflows(count: usize) -> Vec<Field> {
+    let amount = |factor: &str| binary(TIMES, amount_of("a"), integer(factor));
+    let held = guard(binary(AT_LEAST, identifier("r"), amount("2")));
+    let lowered = assign(tag::SUBTRACT, identifier("r"), amount("3"));
+    let mut parts = vec![asset("a")];
+    parts.extend(vec![held; count]);
+    parts.extend(vec![lowered; count]);
+    parts.extend([pays("T", amount("2")), pays("T", amount("3"))]);
+    vec![state("r", None), entry("f", parts)]
+}
+
+/// A payout of a debited amount with many members, none of which is an asset
+/// parameter's, in an entry with many parameters and an assignment.
+fn members_and_parameters(count: usize) -> Vec<Field> {
+    let amount = || call(identifier("g"), vec![amount_of("x"); count]);
+    let mut parts = vec![parameter("p", "u64"); count];
+    parts.push(statement(debit("m", amount())));
+    parts.push(assign(tag::SUBTRACT, identifier("r"), integer("1")));
+    parts.push(pays("T", amount()));
+    vec![state("r", None), entry("f", parts)]
 }
 
 /// Entries that each pay out of a reserve, whose raises are by a debit behind
