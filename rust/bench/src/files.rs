@@ -146,11 +146,7 @@ fn entries_and_raises(count: usize) -> Vec<Field> {
         assign(tag::SUBTRACT, identifier("r"), amount()),
         pays("T", amount()),
     ];
-    let mut fields = vec![
-        state("r", None),
-        entry("c", crediting),
-        entry("g", raising),
-    ];
+    let mut fields = vec![state("r", None), entry("c", crediting), entry("g", raising)];
     fields.extend(vec![entry("f", paying); 62]);
     fields
 }
@@ -199,7 +195,9 @@ fn names_of_one_number() -> Vec<Field> {
 
 /// Guards of what is lowered but is no state field, and many of these.
 fn states_and_guards(count: usize) -> Vec<Field> {
-    let mut fields: Vec<Field> = (0..count).map(|i| state(&format!("{i:04}"), None)).collect();
+    let mut fields: Vec<Field> = (0..count)
+        .map(|i| state(&format!("{i:04}"), None))
+        .collect();
     let mut parts = vec![asset("a")];
     parts.extend((0..count).map(|_| guard(binary(GREATER, identifier("r"), identifier("n")))));
     parts.push(assign(tag::SUBTRACT, identifier("r"), identifier("n")));

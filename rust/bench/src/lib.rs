@@ -74,8 +74,7 @@ fn mean(run: &mut impl FnMut() -> usize) -> Duration {
     start.elapsed() / runs
 }
 
-const USAGE: &str =
-    "usage: [--limit SECONDS]   the table; a time above the limit (60) is given up
+const USAGE: &str = "usage: [--limit SECONDS]   the table; a time above the limit (60) is given up
        --write FOLDER     write the files instead";
 
 /// The program: a table with a column for each measure; every column after the

@@ -38,7 +38,11 @@ fn main() -> ExitCode {
         eprintln!("usage: compare-library N [FIRST-SEED [EXPRESSIONS-PAIRED]]");
         return ExitCode::from(2);
     };
-    let mut or = |default| arguments.next().map_or(default, |word| word.unwrap_or(default));
+    let mut or = |default| {
+        arguments
+            .next()
+            .map_or(default, |word| word.unwrap_or(default))
+    };
     let (first, paired) = (or(0), or(PAIRED as u64) as usize);
     let mut counts = Counts::default();
     for seed in first..first + count {
@@ -103,7 +107,12 @@ fn compare(file: &[u8], paired: usize, counts: &mut Counts) -> Result<(), String
 }
 
 /// The token that a state field holds.
-fn compare_held(file: &[u8], model: &Model, field: &str, counts: &mut Counts) -> Result<(), String> {
+fn compare_held(
+    file: &[u8],
+    model: &Model,
+    field: &str,
+    counts: &mut Counts,
+) -> Result<(), String> {
     let token = oracle::held_token(model, field);
     counts.fields += 1;
     counts.holding += u64::from(token.is_some());

@@ -19,14 +19,14 @@ extern "C" {
         records_length: usize,
         length: *mut usize,
     ) -> u8;
-    pub fn zevdrak_listing(file: *const u8, file_length: usize, out: *mut u8, out_length: usize) -> usize;
+    pub fn zevdrak_listing(
+        file: *const u8,
+        file_length: usize,
+        out: *mut u8,
+        out_length: usize,
+    ) -> usize;
     pub fn zevdrak_check_file(file: *const u8, length: usize, place: *mut usize) -> u8;
-    pub fn zevdrak_expr_eq(
-        a: *const u8,
-        a_length: usize,
-        b: *const u8,
-        b_length: usize,
-    ) -> bool;
+    pub fn zevdrak_expr_eq(a: *const u8, a_length: usize, b: *const u8, b_length: usize) -> bool;
     pub fn zevdrak_bounded_by_backing(
         amount: *const u8,
         amount_length: usize,

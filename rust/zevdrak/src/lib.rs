@@ -157,9 +157,8 @@ pub fn listing(file: &[u8]) -> Vec<u8> {
 /// [`LISTING`] the end of the listing may be left out.
 pub fn listing_into<'a>(file: &[u8], buffer: &'a mut [u8]) -> &'a [u8] {
     // The function reads the file, writes the buffer, and keeps neither.
-    let length = unsafe {
-        c::zevdrak_listing(file.as_ptr(), file.len(), buffer.as_mut_ptr(), buffer.len())
-    };
+    let length =
+        unsafe { c::zevdrak_listing(file.as_ptr(), file.len(), buffer.as_mut_ptr(), buffer.len()) };
     &buffer[..length]
 }
 

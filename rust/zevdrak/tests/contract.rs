@@ -23,8 +23,15 @@ fn alone(file: &[u8], entry: usize) -> Entry {
 fn entries_of_the_examples() {
     let folder = Path::new(env!("CARGO_MANIFEST_DIR")).join("../../examples");
     let mut seen = [false; 3];
-    for path in folder.read_dir().unwrap().map(|entry| entry.unwrap().path()) {
-        if path.extension().is_none_or(|extension| extension != "model") {
+    for path in folder
+        .read_dir()
+        .unwrap()
+        .map(|entry| entry.unwrap().path())
+    {
+        if path
+            .extension()
+            .is_none_or(|extension| extension != "model")
+        {
             continue;
         }
         let file = std::fs::read(path).unwrap();
@@ -33,7 +40,10 @@ fn entries_of_the_examples() {
             assert_eq!(*entry, alone(&file, number));
         }
         let past = alone(&file, contract.entries.len()).verdict;
-        assert!(matches!(past, Verdict::Refused(Refusal { number: 1..=9, .. })));
+        assert!(matches!(
+            past,
+            Verdict::Refused(Refusal { number: 1..=9, .. })
+        ));
         seen[contract.outcome as usize] = true;
     }
     assert!(seen[Outcome::Accepted as usize] && seen[Outcome::Rejected as usize]);
@@ -41,7 +51,10 @@ fn entries_of_the_examples() {
 
 #[test]
 fn a_refused_file_has_one_record() {
-    let refusal = Refusal { number: 2, place: 0 };
+    let refusal = Refusal {
+        number: 2,
+        place: 0,
+    };
     let contract = contract(&[3, 0]);
     assert_eq!(contract.outcome, Outcome::Refused);
     let verdicts: Vec<Verdict> = contract.entries.iter().map(|entry| entry.verdict).collect();

@@ -44,7 +44,8 @@ fn verdicts_of_an_exchange() {
     on_a_stack(VERDICT_STACK, || {
         let file = include_bytes!("../../../examples/exchange.model");
         let mut covers = [0; COVERS];
-        let accepted = |entry: &usize| matches!(verdict(file, *entry, &mut covers), Verdict::Accepted { .. });
+        let accepted =
+            |entry: &usize| matches!(verdict(file, *entry, &mut covers), Verdict::Accepted { .. });
         assert!((0..64).filter(accepted).count() > 1);
     });
 }

@@ -45,7 +45,11 @@ fn among_all(file: &[u8], entry: usize, covers: &mut [u8]) -> Verdict {
     let mut buffer = [0; RECORDS];
     let (outcome, records) = contract_into(file, &mut buffer);
     assert_eq!(outcome, worst(records.clone()), "{file:X?}");
-    let mut found = records.skip(if zevdrak::check_file(file).is_ok() { entry } else { 0 });
+    let mut found = records.skip(if zevdrak::check_file(file).is_ok() {
+        entry
+    } else {
+        0
+    });
     match found.next() {
         None => refused(9, 0),
         Some((verdict, bytes)) => {

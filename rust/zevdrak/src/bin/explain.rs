@@ -46,7 +46,11 @@ fn fields(mut bytes: &[u8]) -> Vec<Field<'_>> {
             break;
         };
         let (tag, all) = (*tag, &bytes[..3 + length]);
-        fields.push(Field { tag, content, bytes: all });
+        fields.push(Field {
+            tag,
+            content,
+            bytes: all,
+        });
         bytes = &rest[length..];
     }
     fields
@@ -81,7 +85,9 @@ fn explained(file: &[u8]) -> String {
 fn name(field: &Field) -> String {
     let parts = fields(field.content);
     let name = parts.iter().find(|part| part.tag == NAME);
-    name.map_or(String::new(), |name| String::from_utf8_lossy(name.content).into_owned())
+    name.map_or(String::new(), |name| {
+        String::from_utf8_lossy(name.content).into_owned()
+    })
 }
 
 /// An entry's lines, those with payouts marked, and its verdict below.
@@ -94,7 +100,13 @@ fn entry(file: &[u8], number: usize, field: &Field, states: &[String]) -> String
     };
     let mark = |payout: usize| match (answer, found.get(payout)) {
         (_, Some(cover)) => format!("payout {payout}: {}", words(cover, states)),
-        (Verdict::Rejected { payout: failing, reason }, None) if failing == payout => {
+        (
+            Verdict::Rejected {
+                payout: failing,
+                reason,
+            },
+            None,
+        ) if failing == payout => {
             format!("payout {payout}: NO COVER, {}", why(reason))
         }
         _ => format!("payout {payout}: not decided"),
@@ -103,7 +115,9 @@ fn entry(file: &[u8], number: usize, field: &Field, states: &[String]) -> String
     let mut lines: Vec<String> = all.lines().map(str::to_string).collect();
     // One line for each clause and statement, behind the line of the entry.
     let parts = fields(field.content);
-    let rows = parts.iter().filter(|part| part.tag != NAME && part.tag != PARAMETER);
+    let rows = parts
+        .iter()
+        .filter(|part| part.tag != NAME && part.tag != PARAMETER);
     let mut payout = 0;
     for (row, part) in rows.enumerate() {
         for _ in 0..payouts(part) {
@@ -116,7 +130,9 @@ fn entry(file: &[u8], number: usize, field: &Field, states: &[String]) -> String
     lines.push(match answer {
         Verdict::Accepted { payouts: 1 } => format!("# entry {number}: yes, 1 payout"),
         Verdict::Accepted { payouts } => format!("# entry {number}: yes, {payouts} payouts"),
-        Verdict::Rejected { payout, .. } => format!("# entry {number}: no, payout {payout} has no cover"),
+        Verdict::Rejected { payout, .. } => {
+            format!("# entry {number}: no, payout {payout} has no cover")
+        }
         Verdict::Refused(refusal) => format!(
             "# entry {number}: question {} says no, at byte {}",
             refusal.number, refusal.place
