@@ -24,10 +24,11 @@
 uint8_t zevdrak_verdict(const uint8_t *file, size_t file_length, size_t entry, uint8_t *covers, size_t covers_length,
                         size_t *first, size_t *second);
 
-/* The verdicts on all entries of a model file by one call. The answer is ZEVDRAK_ACCEPTED only where each entry is accepted:
-   publish a contract only then. Else it is ZEVDRAK_REFUSED where the file or an entry is refused, and ZEVDRAK_REJECTED where
-   none is. Into the front of records, which should have room for ZEVDRAK_RECORDS bytes, goes a record for each entry in file
-   order; a file that is refused has one for the refusal alone. A record is 5 bytes, and for an accepted entry its covers
+/* The verdicts on all entries of a model file by one call. The answer is ZEVDRAK_ACCEPTED only where there are entries and each
+   is accepted: publish a contract only then. Else it is ZEVDRAK_REFUSED where the file or an entry is refused or there is no
+   entry, and ZEVDRAK_REJECTED otherwise. Into the front of records, which should have room for ZEVDRAK_RECORDS bytes, goes a
+   record for each entry in file order; a file that is refused has one for the refusal alone, and one without entries the
+   refusal of question 9. A record is 5 bytes, and for an accepted entry its covers
    behind them: what the verdict is, and its first and second number in two bytes each, most significant byte first. How many
    bytes of records they take is written to length; where there is less room, the last records are cut off. */
 uint8_t zevdrak_contract(const uint8_t *file, size_t file_length, uint8_t *records, size_t records_length, size_t *length);

@@ -7,14 +7,14 @@ use Rattle.claim.specs.Verdict.{kind, index, reason, sheet, written}
 use Rattle.claim.proofs.Samples.{found, entry, state, asset, guard, holds, amount, send, raising, drawing}
 use Rattle.listing.specs.Listing.{below}
 use Rattle.contract.specs.Answer.{outcome, firstOf, secondOf}
-use Rattle.contract.specs.Records.{twoBytes, recorded, verdictOn, records, largest, outcomeOfAll}
+use Rattle.contract.specs.Records.{twoBytes, recorded, verdictOn, atLeastOne, records, largest, outcomeOfAll}
 
 unfoldable recordsOf : List ℕ → List ℕ
-unfolding found kind index reason sheet written below outcome firstOf secondOf twoBytes recorded verdictOn records flatMap
+unfolding found kind index reason sheet written below outcome firstOf secondOf twoBytes recorded verdictOn atLeastOne records flatMap
 recordsOf file = records file
 
 unfoldable outcomeIn : List ℕ → ℕ
-unfolding found outcome verdictOn largest outcomeOfAll
+unfolding found outcome verdictOn atLeastOne largest outcomeOfAll
 outcomeIn file = outcomeOfAll file
 
 -- K11: the first entry raises the reserve and pays nothing out, the second draws on it
@@ -33,8 +33,8 @@ three-records : recordsOf three ≡ 0 ∷ 0 ∷ 0 ∷ 0 ∷ 0 ∷ 1 ∷ 0 ∷ 1 
 unfolding recordsOf three
 three-records = refl
 
--- a file that question 7 refuses at the place 26 has that record alone, and one without entries has none
-file-records : recordsOf (state "r" [] ++ state "q" [] ++ state "r" []) ∷ recordsOf [] ∷ [] ≡ (2 ∷ 0 ∷ 7 ∷ 0 ∷ 26 ∷ []) ∷ [] ∷ []
+-- a file that question 7 refuses at the place 26 has that record alone, and one without entries that of question 9
+file-records : recordsOf (state "r" [] ++ state "q" [] ++ state "r" []) ∷ recordsOf [] ∷ [] ≡ (2 ∷ 0 ∷ 7 ∷ 0 ∷ 26 ∷ []) ∷ (2 ∷ 0 ∷ 9 ∷ 0 ∷ 0 ∷ []) ∷ []
 unfolding recordsOf
 file-records = refl
 
@@ -47,6 +47,6 @@ unfolding recordsOf tenth
 tenth-records = refl
 
 -- all accepted, one rejected, one refused, the file refused, no entries
-together-examples : outcomeIn k11 ∷ outcomeIn three ∷ outcomeIn (tenth ++ three) ∷ outcomeIn (0x03 ∷ 0x00 ∷ []) ∷ outcomeIn [] ∷ [] ≡ 0 ∷ 1 ∷ 2 ∷ 2 ∷ 0 ∷ []
+together-examples : outcomeIn k11 ∷ outcomeIn three ∷ outcomeIn (tenth ++ three) ∷ outcomeIn (0x03 ∷ 0x00 ∷ []) ∷ outcomeIn [] ∷ [] ≡ 0 ∷ 1 ∷ 2 ∷ 2 ∷ 2 ∷ []
 unfolding outcomeIn k11 three tenth
 together-examples = refl

@@ -1,5 +1,5 @@
 -- The records of the entries before the n-th are written, and the largest of what those are is known; without an n-th that is all.
-use Prim.Native.Nat.{ℕ, suc, _+_, _-_, _*_, _≤_}
+use Prim.Native.Nat.{ℕ, zero, suc, _+_, _-_, _*_, _≤_, _<_}
 use mathlib.Core.Path.{_≡_, refl, sym, ap, _∙_}
 use mathlib.Core.Bool.{true, false, cond}
 use mathlib.Core.List.{List, flatMap, append-nil}
@@ -7,9 +7,10 @@ use native.Mathlib.Omega.{arith}
 use lib.Dec.{ltb}
 use lib.ListN.{length, take, drop}
 use Rattle.tags.specs.Tag.{Entry}
-use Rattle.fields.specs.Field.{fields, whole, after, from}
+use Rattle.fields.specs.Field.{fields, whole, after, from, fromNth}
 use Rattle.model.specs.Model.{entries}
 use Rattle.model.specs.Shown.{shown}
+use Rattle.model.proofs.Accessors.{shown-nth}
 use Rattle.questions.specs.Questions.{passes, fails, askFile}
 use Rattle.questions.specs.Answers.{asked}
 use Rattle.questions.specs.declared.check.Answer.{Answer}
@@ -19,28 +20,66 @@ use Rattle.fundings.specs.Fundings.{Fundings}
 use Rattle.reserves.specs.Holding.{Right}
 use Rattle.claim.specs.Verdict.{Verdict, refused, verdict, entryVerdict, written}
 use Rattle.verdict.specs.Coded.{placedVerdict}
-use Rattle.verdict.proofs.Asking.{entry-missing}
+use Rattle.verdict.proofs.Asking.{ninth, entry-missing, entry-counted}
 use Rattle.verdict.proofs.Placing.{past-ninth}
 use Rattle.listing.specs.Output.{Written}
 use Rattle.listing.specs.Listing.{below}
 use Rattle.listing.proofs.Entries.{Entries, entries-none, entries-short, entries-table, entries-room, entries-same, entries-all, entries-on, nth-shown}
 use Rattle.contract.specs.Answer.{outcome, firstOf, secondOf}
-use Rattle.contract.specs.Records.{recorded, verdictOn, records, largest, outcomeOfAll}
+use Rattle.contract.specs.Records.{recorded, verdictOn, atLeastOne, records, largest, outcomeOfAll}
 use Rattle.contract.specs.Coded.{headOf}
 use Rattle.contract.specs.declared.records.Recorded.{Recorded}
 
--- of a file that a question refuses
-module _ (file : List ℕ) (a : Answer) (e : asked a ≡ askFile file) (k p : ℕ) (f : a ≡ Refused k p) where
-  fails-so : askFile file ≡ fails k p
-  fails-so = sym e ∙ ap asked f
+pub refusal-recorded : (k p : ℕ) (t u : List ℕ) (r : ℕ) → Written (headOf (record { outcome = 2; first = k; second = p })) t 0 u r → Written (recorded (refused k p)) t 0 u r
+unfolding recorded headOf outcome firstOf secondOf written
+refusal-recorded k p t u r w = rw append-nil w
 
-  pub refused-outcome : 2 ≡ outcomeOfAll file
-  unfolding outcomeOfAll
-  refused-outcome = rw (outcomeOfAll, fails-so)
+pub some-there : (n : ℕ) → 0 < n → atLeastOne n ≡ n
+unfolding atLeastOne
+some-there zero h = absurd (omega (arith, h))
+some-there (suc n) h = refl
 
-  pub refused-records : (t u : List ℕ) (r : ℕ) → Written (headOf (record { outcome = 2; first = k; second = p })) t 0 u r → Written (records file) t 0 u r
-  unfolding records recorded headOf outcome firstOf secondOf written
-  refused-records t u r w = rw (records, fails-so, append-nil) w
+module _ (file : List ℕ) (a : Answer) (e : asked a ≡ askFile file) where
+  -- a question about the file says no
+  module _ (k p : ℕ) (f : a ≡ Refused k p) where
+    fails-so : askFile file ≡ fails k p
+    fails-so = sym e ∙ ap asked f
+
+    pub refused-outcome : (o : ℕ) → o ≡ 2 → o ≡ outcomeOfAll file
+    unfolding outcomeOfAll
+    refused-outcome o h = rw (outcomeOfAll, fails-so) h
+
+    pub refused-records : (t u : List ℕ) (r : ℕ) → Written (recorded (refused k p)) t 0 u r → Written (records file) t 0 u r
+    unfolding records
+    refused-records t u r w = rw (records, fails-so) w
+
+  -- none does, and the file has an entry or not
+  module _ (f : a ≡ Passes) (s : List ℕ) (g : s ≡ from Entry Entry file) where
+    passes-so : askFile file ≡ passes
+    passes-so = sym e ∙ ap asked f
+
+    first-shown : shown file s ≡ take 1 (drop 0 (entries (fields file)))
+    unfolding entries fromNth
+    first-shown = shown-nth Entry Entry 0 file s g
+
+    pub has-entry : whole s ≡ true → 0 < length (entries (fields file))
+    has-entry w = entry-counted file 0 s first-shown w (length file - length s) refl
+
+    module _ (w : whole s ≡ false) where
+      none-there : length (entries (fields file)) ≡ 0
+      none-there = omega (arith, entry-missing file 0 s first-shown w)
+
+      first-refused : verdictOn file 0 ≡ refused 9 0
+      unfolding verdictOn verdict
+      first-refused = rw (verdictOn, verdict, passes-so) (ninth (fields file) 0 192 (omega (arith, none-there)))
+
+      pub missing-outcome : (o : ℕ) → o ≡ 2 → o ≡ outcomeOfAll file
+      unfolding outcomeOfAll atLeastOne largest outcome
+      missing-outcome o h = rw (outcomeOfAll, passes-so, none-there, first-refused) h
+
+      pub missing-records : (t u : List ℕ) (r : ℕ) → Written (recorded (refused 9 0)) t 0 u r → Written (records file) t 0 u r
+      unfolding records atLeastOne below flatMap
+      missing-records t u r x = rw (records, passes-so, none-there, first-refused, append-nil) x
 
 abbrev recordOn : List ℕ → ℕ → List ℕ
 recordOn file n = recorded (verdictOn file n)
@@ -80,18 +119,18 @@ module _ (file lent before : List ℕ) where
     pub recording-same : length u ≡ length before
     recording-same = entries-same (recordOn file) file lent before table u fundings count known t (i .number) m w
 
-    pub recording-all : whole t ≡ false → Written (records file) before 0 u m
+    pub recording-all : 0 < length (entries (fields file)) → whole t ≡ false → Written (records file) before 0 u m
     unfolding records
-    recording-all g =
+    recording-all z g =
         let p : askFile file ≡ passes = w .passed in
-        rw (records, p) (entries-all (recordOn file) file lent before table u fundings count known t (i .number) m w g)
+        rw (records, p, some-there (length (entries (fields file))) z) (entries-all (recordOn file) file lent before table u fundings count known t (i .number) m w g)
 
-    pub outcome-all : whole t ≡ false → worst ≡ outcomeOfAll file
+    pub outcome-all : 0 < length (entries (fields file)) → whole t ≡ false → worst ≡ outcomeOfAll file
     unfolding outcomeOfAll
-    outcome-all g =
+    outcome-all z g =
         let p : askFile file ≡ passes = w .passed in
         let e : i .number ≡ length (entries (fields file)) = omega (arith, w .counted, entry-missing file (i .number) t shown-here g) in
-        rw (outcomeOfAll, p, ← e) (i .largest-so-far)
+        rw (outcomeOfAll, p, some-there (length (entries (fields file))) z, ← e) (i .largest-so-far)
 
     module _ (g : whole t ≡ true) (place : ℕ) (f : place ≡ length file - length t) where
       abbrev here : Verdict

@@ -11,10 +11,12 @@ use lib.ListN.{length}
 use Rattle.fields.specs.Field.{fields}
 use Rattle.model.specs.Model.{entries}
 use Rattle.questions.specs.Questions.{Asked, passes, fails, askFile}
-use Rattle.claim.specs.Verdict.{Verdict, refused, rejected, accepted}
+use Rattle.claim.specs.Verdict.{Verdict, refused, rejected, accepted, verdict}
 use Rattle.claim.specs.Claim.{Accepted}
+use Rattle.verdict.proofs.Asking.{ninth}
 use Rattle.contract.specs.Answer.{outcome}
-use Rattle.contract.specs.Records.{verdictOn, largest, outcomeOfAll}
+use Rattle.contract.specs.Records.{verdictOn, atLeastOne, largest, outcomeOfAll}
+use Rattle.contract.proofs.Recording.{some-there}
 
 -- the larger of two numbers is 0 where both are
 both-zero : (a b : ℕ) → cond (ltb a b) b a ≡ 0 → (a ≡ 0) × (b ≡ 0)
@@ -49,9 +51,10 @@ so-accepted : (v : Verdict) → Accepted v → outcome v ≡ 0
 unfolding outcome Accepted
 so-accepted v (cs, e) = ap outcome e
 
--- the file passes questions 1 to 8, and each entry is accepted
+-- the file passes questions 1 to 8 and has entries, and each entry is accepted
 pub record EachAccepted (file : List ℕ) : Type 0 where
   pub passed : askFile file ≡ passes
+  pub some : 0 < length (entries (fields file))
   pub each : (n : ℕ) → n < length (entries (fields file)) → Accepted (verdictOn file n)
 
 module _ (file : List ℕ) where
@@ -61,11 +64,27 @@ module _ (file : List ℕ) where
   abbrev what : ℕ → ℕ
   what n = outcome (verdictOn file n)
 
-  each-of : (a : Asked) → askFile file ≡ a → _≡_ {A = ℕ} (elim a [ fails number place ↦ 2 | passes ↦ largest what count ]) 0 → EachAccepted file
+  -- without entries the first is asked about, and refused
+  some-of : askFile file ≡ passes → largest what (atLeastOne count) ≡ 0 → 0 < count
+  unfolding atLeastOne largest verdictOn verdict outcome
+  some-of f e = go count refl e
+    where
+      go : (k : ℕ) → count ≡ k → largest what (atLeastOne k) ≡ 0 → 0 < count
+      go zero h g =
+          let r : verdictOn file 0 ≡ refused 9 0 = rw (verdictOn, verdict, f) (ninth (fields file) 0 192 (omega (arith, h))) in
+          absurd (omega (arith, rw r at g))
+      go (suc k) h g = omega (arith, h)
+
+  each-of : (a : Asked) → askFile file ≡ a → _≡_ {A = ℕ} (elim a [ fails number place ↦ 2 | passes ↦ largest what (atLeastOne count) ]) 0 → EachAccepted file
   each-of (fails k p) f e = absurd (omega (arith, e))
-  each-of passes f e = record { passed = f; each = λ n h. accepted-so (verdictOn file n) (each-zero what count e n h) }
+  each-of passes f e =
+      let z : 0 < count = some-of f e in
+      record { passed = f; some = z; each = λ n h. accepted-so (verdictOn file n) (each-zero what (atLeastOne count) e n (rw (some-there count z) h)) }
 
   pub together : outcomeOfAll file ≡ 0 ↔ EachAccepted file
   unfolding outcomeOfAll
-  together =
-      (each-of (askFile file) refl, λ x. let p : askFile file ≡ passes = x .passed in rw (outcomeOfAll, p) (all-zero what count (λ n h. so-accepted (verdictOn file n) (x .each n h))))
+  together = (
+    each-of (askFile file) refl,
+    λ x. let p : askFile file ≡ passes = x .passed in
+        rw (outcomeOfAll, p, some-there count (x .some)) (all-zero what count (λ n h. so-accepted (verdictOn file n) (x .each n h))),
+  )

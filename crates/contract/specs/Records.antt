@@ -23,12 +23,17 @@ recorded v = outcome v ∷ twoBytes (firstOf v) ++ twoBytes (secondOf v) ++ writ
 unfoldable pub verdictOn : List ℕ → ℕ → Verdict
 verdictOn file n = verdict file n 192
 
--- a refusal of questions 1 to 8 is one record; else each entry has one
+-- how many entries are asked about: of a file without entries the first, which question 9 refuses
+unfoldable pub atLeastOne : ℕ → ℕ
+atLeastOne zero = 1
+atLeastOne (suc n) = suc n
+
+-- a refusal of questions 1 to 8 is one record; else each entry that is asked about has one
 unfoldable pub records : List ℕ → List ℕ
 records file =
     elim (askFile file) [
       | fails number place ↦ recorded (refused number place)
-      | passes ↦ flatMap (λ n. recorded (verdictOn file n)) (below (length (entries (fields file))))
+      | passes ↦ flatMap (λ n. recorded (verdictOn file n)) (below (atLeastOne (length (entries (fields file)))))
     ]
 
 -- the largest of f 0, f 1, .. of the numbers below n; 0 where there are none
@@ -36,10 +41,11 @@ unfoldable pub largest : (ℕ → ℕ) → ℕ → ℕ
 largest f zero = 0
 largest f (suc n) = cond (ltb (largest f n) (f n)) (f n) (largest f n)
 
--- what all are together: refused where a question about the file says no; else the largest of what its entries are
+-- what all are together: refused where a question about the file says no, or where there is no entry; else the largest of what
+-- its entries are
 unfoldable pub outcomeOfAll : List ℕ → ℕ
 outcomeOfAll file =
     elim (askFile file) [
       | fails number place ↦ 2
-      | passes ↦ largest (λ n. outcome (verdictOn file n)) (length (entries (fields file)))
+      | passes ↦ largest (λ n. outcome (verdictOn file n)) (atLeastOne (length (entries (fields file))))
     ]

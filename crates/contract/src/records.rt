@@ -15,14 +15,16 @@ use verdict::entry::less;
 use verdict::entry::placed_verdict;
 ghost use mathlib.Core.Path.{_≡_};
 ghost use mathlib.Core.Bool.{cond};
-ghost use Prim.Native.Nat.{_*_, _≤_};
+ghost use Prim.Native.Nat.{_*_, _≤_, _<_};
 ghost use lib.Dec.{ltb};
 ghost use lib.ListN.{length};
 ghost use Rattle.fields.specs.Field.{fields};
+ghost use Rattle.model.specs.Model.{entries};
 ghost use Rattle.questions.specs.Questions.{passes, askFile};
 ghost use Rattle.walking.specs.Table.{placedAt};
 ghost use Rattle.fundings.specs.Fundings.{Fundings};
 ghost use Rattle.reserves.specs.Holding.{Right};
+ghost use Rattle.claim.specs.Verdict.{refused};
 ghost use Rattle.verdict.specs.Coded.{placedVerdict};
 ghost use Rattle.listing.specs.Output.{Written};
 ghost use Rattle.contract.specs.Answer.{outcome};
@@ -115,9 +117,11 @@ fn entry_record(
     }
 }
 
-// Writes the records of all entries of a file that passes questions 1 to 8. What the verdicts share is worked out once.
+// Writes the records of all entries of a file that passes questions 1 to 8 and has some. What the verdicts share is worked out
+// once.
 fn all_records(file: &[u8], table: &mut [u16], out: &mut [u8]) -> Recorded
     requires passed { ⌜ askFile (now file) ≡ passes ⌝ }
+    requires some { ⌜ 0 < length (entries (fields (now file))) ⌝ }
     requires table { ⌜ length (now file) ≤ 3 * length (now table) ⌝ }
     ensures outcome { λ r. ⌜ r .outcome ≡ outcomeOfAll (now (file .entry)) ⌝ }
     ensures records { λ r. ⌜ Written (records (now (file .entry))) (now (out .entry)) 0 (now (out .exit)) (r .end) ⌝ }
@@ -150,22 +154,34 @@ fn all_records(file: &[u8], table: &mut [u16], out: &mut [u8]) -> Recorded
     }
 }
 
-// Writes the records of any file: that of a refusal, or one for each entry. They are written as far as there is room. Most
-// files are short, and a short table is soon cleared.
+// Writes the record of a refusal, which is then the only one.
+fn refusal_record(number: usize, place: usize, out: &mut [u8]) -> Recorded
+    ensures outcome { λ r. ⌜ r .outcome ≡ 2 ⌝ }
+    ensures record { λ r. ⌜ Written (recorded (refused number place)) (now (out .entry)) 0 (now (out .exit)) (r .end) ⌝ }
+{
+    let numbers = Numbers {
+        outcome: 2,
+        first: number,
+        second: place,
+    };
+    Recorded {
+        outcome: 2,
+        end: write_numbers(numbers, out, 0),
+    }
+}
+
+// Writes the records of any file: that of a refusal, or one for each entry. They are written as far as there is room. A file
+// without entries is not accepted: nothing was found out about the contract that it should carry. Most files are short, and a
+// short table is soon cleared.
 pub fn write_records(file: &[u8], out: &mut [u8]) -> Recorded
     ensures outcome { λ r. ⌜ r .outcome ≡ outcomeOfAll (now (file .entry)) ⌝ }
     ensures records { λ r. ⌜ Written (records (now (file .entry))) (now (out .entry)) 0 (now (out .exit)) (r .end) ⌝ }
 {
     if let Answer::Refused { number, place } = check_file(file) {
-        let numbers = Numbers {
-            outcome: 2,
-            first: number as usize,
-            second: place,
-        };
-        return Recorded {
-            outcome: 2,
-            end: write_numbers(numbers, out, 0),
-        };
+        return refusal_record(number as usize, place, out);
+    }
+    if !is_whole(first_from(file, ENTRY, ENTRY)) {
+        return refusal_record(9, 0, out);
     }
     if file.len() <= 6144 {
         let mut table = [0u16; 2048];

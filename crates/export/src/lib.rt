@@ -60,7 +60,8 @@ pub extern "C" fn zevdrak_verdict(
 
 // The verdicts on all entries of a file: a record of bytes for each (Records in the specs of crates/contract), written into the
 // front of records as far as it has room, and how many bytes of it they take. The answer is 0 where each entry is accepted; else
-// the largest of what they are, or 2 where the file is refused. Demand 3 is `backed`, about the covers in the records.
+// the largest of what they are, or 2 where the file is refused or has no entry. Demand 3 is `backed`, about the covers in the
+// records.
 #[no_mangle]
 pub extern "C" fn zevdrak_contract(file: &[u8], records: &mut [u8], length: &mut usize) -> u8
     ensures answer { λ r. ⌜ r ≡ contract.outcomeOfAll (now (file .entry)) ⌝ }

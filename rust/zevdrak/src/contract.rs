@@ -10,11 +10,11 @@ pub const RECORDS: usize = 12_608;
 /// What the entries of a contract are together.
 #[derive(Debug, Clone, Copy, PartialEq, Eq)]
 pub enum Outcome {
-    /// Each entry is accepted.
+    /// There are entries, and each is accepted.
     Accepted,
     /// None is refused, and at least one is rejected.
     Rejected,
-    /// The file is refused, or at least one entry.
+    /// The file is refused, or at least one entry, or there is no entry.
     Refused,
 }
 
@@ -30,7 +30,8 @@ pub struct Entry {
 #[derive(Debug, Clone, PartialEq, Eq)]
 pub struct Contract {
     pub outcome: Outcome,
-    /// In file order. A file that is refused has the refusal alone.
+    /// In file order. A file that is refused has the refusal alone, and one
+    /// without entries that of question 9.
     pub entries: Vec<Entry>,
 }
 

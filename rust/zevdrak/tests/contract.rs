@@ -49,21 +49,21 @@ fn entries_of_the_examples() {
     assert!(seen[Outcome::Accepted as usize] && seen[Outcome::Rejected as usize]);
 }
 
-#[test]
-fn a_refused_file_has_one_record() {
-    let refusal = Refusal {
-        number: 2,
-        place: 0,
-    };
-    let contract = contract(&[3, 0]);
+/// The contract is refused, and for this alone.
+fn assert_refused(file: &[u8], number: u8) {
+    let contract = contract(file);
     assert_eq!(contract.outcome, Outcome::Refused);
     let verdicts: Vec<Verdict> = contract.entries.iter().map(|entry| entry.verdict).collect();
+    let refusal = Refusal { number, place: 0 };
     assert_eq!(verdicts, [Verdict::Refused(refusal)]);
 }
 
 #[test]
-fn a_file_without_entries_pays_nothing_out() {
-    let contract = contract(&[]);
-    assert_eq!(contract.outcome, Outcome::Accepted);
-    assert!(contract.entries.is_empty());
+fn a_refused_file_has_one_record() {
+    assert_refused(&[3, 0], 2);
+}
+
+#[test]
+fn a_file_without_entries_is_not_accepted() {
+    assert_refused(&[], 9);
 }

@@ -67,9 +67,9 @@ fn worst(records: Records) -> Outcome {
         zevdrak::Verdict::Refused(_) => 2,
     };
     match records.map(rank).max() {
-        None | Some(0) => Outcome::Accepted,
+        Some(0) => Outcome::Accepted,
         Some(1) => Outcome::Rejected,
-        Some(_) => Outcome::Refused,
+        _ => Outcome::Refused,
     }
 }
 

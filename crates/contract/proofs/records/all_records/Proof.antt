@@ -30,4 +30,4 @@ all-records-spec =
     (λ c. recording-on _ _ _ _ _ _ _ _ _ _ _ (c .before .before .before .before .before .before .before .before .before .before .before .before .before .before .before .before .before .before .loop .inv) (search (told, needs)) _ (c .before .before .before .before .before .before .before .before .before .before .before .before .before .before .before .less .ensures) _ (c .before .before .before .before .before .before .before .before .before .entry-record .ensures .0) _ _ (c .before .before .before .before .before .before .before .before .before .entry-record .ensures .1 .0) _ (search needs) _ _ (c .before .after-front .ensures) (c .first-from2 .ensures) _ (search needs) _ _ (search needs) (c .before .before .before .before .before .before .before .before .before .entry-record .ensures .1 .1 .0) _ (search needs) (c .before .before .before .before .before .before .before .before .before .entry-record .ensures .1 .1 .1))  -- loop-again
     (λ c. search needs)  -- same-length
     (λ c. search recording-same)  -- same-length-2
-    (λ c. (outcome-all _ _ _ _ _ _ _ _ _ _ _ (c .before .before .loop .inv) (search (told, needs)), recording-all _ _ _ _ _ _ _ _ _ _ _ (c .before .before .loop .inv) (search (told, needs)))))  -- returns
+    (λ c. (outcome-all _ _ _ _ _ _ _ _ _ _ _ (c .before .before .loop .inv) (c .before .before .before .before .before .before .before .pre .1 .0) (search (told, needs)), recording-all _ _ _ _ _ _ _ _ _ _ _ (c .before .before .loop .inv) (c .before .before .before .before .before .before .before .pre .1 .0) (search (told, needs)))))  -- returns
