@@ -1,6 +1,5 @@
 -- Demand 3 holds of each entry whatever is lent for its covers.
 use Prim.Native.Nat.{ℕ}
-use mathlib.Core.Path.{_≡_}
 use mathlib.Core.List.{List, []}
 use Rattle.fields.specs.Field.{fields}
 use Rattle.claim.specs.Verdict.{entryAt, entryVerdict, verdict}

@@ -1,24 +1,24 @@
 -- 12,608 bytes hold the records of every file: at most 64 entries with at most 64 payouts each. The numbers of a verdict fit in
 -- two bytes, so they can be read back.
 use Prim.Native.Nat.{ℕ, zero, suc, _+_, _*_, _/_, _%_, _≤_, _<_}
-use mathlib.Core.Path.{_≡_, refl, sym, ap, _∙_}
-use mathlib.Core.List.{List, [], _∷_, _++_, flatMap}
+use mathlib.Core.Path.{_≡_, refl}
+use mathlib.Core.List.{List, [], flatMap}
 use native.Mathlib.Omega.{arith}
-use lib.ListN.{length, drop, length-append}
+use lib.ListN.{length, length-append}
 use lib.Seq.{drop-nil}
 use Rattle.fields.specs.Field.{fields}
 use Rattle.model.specs.Model.{entries}
 use Rattle.questions.specs.Questions.{Asked, passes, fails, askFile}
 use Rattle.matching.specs.Matching.{Reason}
 use Rattle.matching.specs.Matching.Reason.{splitWithoutAmount, conflictAtEqual, amountTaken, conflictAtBounding, noReserve, reserveUsed}
-use Rattle.claim.specs.Verdict.{Verdict, refused, rejected, accepted, verdict, entryVerdict, sheet, written, reason}
+use Rattle.claim.specs.Verdict.{Verdict, refused, rejected, accepted, verdict, entryVerdict, written, reason}
 use Rattle.verdict.proofs.Asking.{ninth}
 use Rattle.verdict.proofs.Running.{sheet-long}
 use Rattle.listing.specs.Listing.{below}
 use Rattle.listing.proofs.Passed.{few-entries, accepted-few}
 use Rattle.listing.proofs.Fine.{Fine, fine-file}
 use Rattle.listing.proofs.Enough.{each-short, Said, entry-said}
-use Rattle.contract.specs.Answer.{outcome, firstOf, secondOf}
+use Rattle.contract.specs.Answer.{firstOf, secondOf}
 use Rattle.contract.specs.Records.{twoBytes, recorded, verdictOn, atLeastOne, records}
 
 -- the two numbers of a verdict fit in two bytes, and an accepted entry has at most 64 payouts

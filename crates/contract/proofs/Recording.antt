@@ -18,7 +18,7 @@ use Rattle.questions.specs.declared.check.Answer.the-variants.{Passes, Refused}
 use Rattle.walking.specs.Table.{placedAt}
 use Rattle.fundings.specs.Fundings.{Fundings}
 use Rattle.reserves.specs.Holding.{Right}
-use Rattle.claim.specs.Verdict.{Verdict, refused, verdict, entryVerdict, written}
+use Rattle.claim.specs.Verdict.{Verdict, refused, verdict, written}
 use Rattle.verdict.specs.Coded.{placedVerdict}
 use Rattle.verdict.proofs.Asking.{ninth, entry-missing, entry-counted}
 use Rattle.verdict.proofs.Placing.{past-ninth}
@@ -28,7 +28,6 @@ use Rattle.listing.proofs.Entries.{Entries, entries-none, entries-short, entrie
 use Rattle.contract.specs.Answer.{outcome, firstOf, secondOf}
 use Rattle.contract.specs.Records.{recorded, verdictOn, atLeastOne, records, largest, outcomeOfAll}
 use Rattle.contract.specs.Coded.{headOf}
-use Rattle.contract.specs.declared.records.Recorded.{Recorded}
 
 pub refusal-recorded : (k p : ℕ) (t u : List ℕ) (r : ℕ) → Written (headOf (record { outcome = 2; first = k; second = p })) t 0 u r → Written (recorded (refused k p)) t 0 u r
 unfolding recorded headOf outcome firstOf secondOf written

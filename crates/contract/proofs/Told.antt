@@ -1,9 +1,7 @@
 -- The numbers of a verdict, case by case of the one that the code has.
 use Prim.Native.Nat.{ℕ}
-use mathlib.Core.Path.{_≡_, refl, sym, ap, _∙_}
+use mathlib.Core.Path.{_≡_, refl}
 use mathlib.Core.Bool.{false≢true}
-use mathlib.Core.List.{List}
-use lib.ListN.{length}
 use Rattle.matching.specs.Matching.{Reason}
 use Rattle.matching.specs.Matching.Reason.{splitWithoutAmount, conflictAtEqual, amountTaken, conflictAtBounding, noReserve, reserveUsed}
 use Rattle.matching.specs.Coded.{codedReason, reasonOf}
@@ -15,7 +13,6 @@ use Rattle.verdict.specs.declared.entry.Verdict.{Verdict as CodedVerdict}
 use Rattle.verdict.specs.declared.entry.Verdict.the-variants.{Refused, Rejected, Accepted}
 use Rattle.contract.specs.Answer.{outcome, firstOf, secondOf}
 use Rattle.contract.specs.Coded.{NumbersOf, Numbered}
-use Rattle.contract.specs.declared.numbers.Numbers.{Numbers}
 
 -- a reason of the rules is the one that its code stands for
 reason-back : (r : Reason) → reasonOf (codedReason r) ≡ r

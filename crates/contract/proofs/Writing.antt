@@ -1,25 +1,22 @@
 -- A record is written piece by piece: what it is, its two numbers, and the covers of an accepted entry.
 use Prim.Native.Nat.{ℕ, _+_, _-_, _*_, _/_, _%_, _≤_}
-use mathlib.Core.Path.{_≡_, refl, sym, ap, _∙_}
+use mathlib.Core.Path.{_≡_, refl, ap, _∙_}
 use mathlib.Core.Bool.{cond}
 use mathlib.Core.List.{List, [], _∷_, _++_, append-nil}
 use native.Mathlib.Omega.{arith}
 use borrow.Author.Tests.{eq-eqb, ne-eqb}
-use mir.Syntax.{w64}
-use mir.Val.{Fits}
 use lib.Dec.{eqb}
-use lib.ListN.{length, take, drop, length-append, length-drop}
+use lib.ListN.{length, take, drop, length-append}
 use lib.Seq.{drop-nil, take-append-seam}
 use Rattle.fields.specs.Field.{fields}
 use Rattle.walking.specs.Table.{placedAt}
-use Rattle.matching.specs.Matching.{Cover}
 use Rattle.claim.specs.Verdict.{Verdict, refused, rejected, accepted, sheet, written}
 use Rattle.verdict.specs.Coded.{coded, placedVerdict}
 use Rattle.verdict.specs.declared.entry.Verdict.{Verdict as CodedVerdict}
 use Rattle.verdict.proofs.Running.{sheet-long}
 use Rattle.listing.specs.Output.{Written}
 use Rattle.listing.proofs.Buffer.{written-then}
-use Rattle.contract.specs.Answer.{outcome, firstOf, secondOf}
+use Rattle.contract.specs.Answer.{outcome, firstOf}
 use Rattle.contract.specs.Records.{twoBytes, recorded}
 use Rattle.contract.specs.Coded.{headOf, recordOf, NumbersOf, Numbered}
 use Rattle.contract.specs.declared.numbers.Numbers.{Numbers}

@@ -7,13 +7,13 @@ use mathlib.Core.Bool.{Bool, true, false, cond, not, _&&_, and-false}
 use mathlib.Core.List.{List, [], _∷_, _++_, map, flatMap}
 use native.Mathlib.Omega.{arith}
 use native.Mathlib.Nat.{mod-eq-of-lt}
-use borrow.Author.Tests.{not-true, leb-true, le-leb}
+use borrow.Author.Tests.{leb-true, le-leb}
 use lib.Dec.{eqb, leb}
 use lib.ListN.{length, drop, length-append}
 use Rattle.fields.specs.Lists.{any, filter, sameBytes}
 use Rattle.tags.specs.Tag.{Guard, Set, SubtractFrom, ExpressionStatement, Sub, between, isAssign, isWrapper}
 use Rattle.fields.specs.Table.{Listed}
-use Rattle.fields.specs.Field.{Field, Fields, Placed, fields, lengthOf, whole, front, tag, parts, part, nth, nothing, size, sizes, row, fieldsFrom, from, placed}
+use Rattle.fields.specs.Field.{Field, Fields, Placed, fields, lengthOf, whole, front, tag, parts, part, nth, nothing, size, sizes, row, fieldsFrom, placed}
 use Rattle.fields.specs.Field.Field.{field}
 use Rattle.fields.specs.Field.Fields.{end, next}
 use Rattle.tags.proofs.Bools.{and-left, and-right}
