@@ -26,6 +26,7 @@ module _ {A : Type 0} where
     every-filter f (x ∷ xs) p = let q = every-filter f xs p.1 in chosen (Every P) (f x) (p.0, q) q
 
     pub every-at : (l : List A) → Every P l → (n : ℕ) (d : A) → n < length l → P (get_or l n d)
+    every-at [] e n d h = absurd (omega (arith, h))
     every-at (x ∷ l) e zero d h = e.0
     every-at (x ∷ l) e (suc n) d h = every-at l e.1 n d (omega (arith, h))
 

@@ -24,6 +24,7 @@ sets-before (k ∷ ks) t n j h =
 
 -- and each number stands at its place
 pub sets-at : (ks t : List ℕ) (n i : ℕ) → n + i < length t → i < length ks → get_or (sets t n ks) (n + i) 0 ≡ get_or ks i 0
+sets-at [] t n i h g = absurd (omega (arith, g))
 sets-at (k ∷ ks) t n zero h g =
     let e : n + 0 ≡ n = omega arith in
     rw e (sets-before ks (set t n k) (suc n) n (omega arith) ∙ get_or-set_same t n k 0 (omega (arith, h)))

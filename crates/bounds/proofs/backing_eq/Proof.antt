@@ -20,8 +20,8 @@ module _ (x s : List ℕ) (named r : Bool) where
   unfolding backingField
   of-file h e = rw h e
 
-pub backing-eq-spec : {M : Type 1} → statement M
-backing-eq-spec =
+pub backing_eq_spec : {M : Type 1} → statement M
+backing_eq_spec =
     tie.close (tie.spec
     (λ c κs. search rules)  -- is-amount-of-requires
     (λ c. search of-parameter)  -- returns

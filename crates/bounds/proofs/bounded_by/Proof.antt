@@ -5,8 +5,8 @@ use Rattle.bounds.proofs.Bounds.{Bounding, bounding-equal, bounding-stop, boundi
 use Rattle.bounds.proofs.bounded_by.Statement.{statement}
 use Rattle.bounds.proofs.bounded_by.Tie as tie
 
-pub bounded-by-spec : {M : Type 1} → statement M
-bounded-by-spec =
+pub bounded_by_spec : {M : Type 1} → statement M
+bounded_by_spec =
     tie.close
     (tie.spec
     (λ amount backing named wrapping t₀ here₀ t here. Bounding amount backing named wrapping t here)  -- Inv-loop

@@ -3,8 +3,8 @@ use Rattle.bounds.specs.Bounds.{goesLeft}
 use Rattle.bounds.proofs.goes_left.Statement.{statement}
 use Rattle.bounds.proofs.goes_left.Tie as tie
 
-pub goes-left-spec : {M : Type 1} → statement M
+pub goes_left_spec : {M : Type 1} → statement M
 unfolding goesLeft
-goes-left-spec =
+goes_left_spec =
     tie.close (tie.spec
     (λ c. cc))  -- returns

@@ -3,8 +3,8 @@ use Rattle.bounds.specs.Bounds.{wrappingInside}
 use Rattle.bounds.proofs.wrapping_inside.Statement.{statement}
 use Rattle.bounds.proofs.wrapping_inside.Tie as tie
 
-pub wrapping-inside-spec : {M : Type 1} → statement M
+pub wrapping_inside_spec : {M : Type 1} → statement M
 unfolding wrappingInside
-wrapping-inside-spec =
+wrapping_inside_spec =
     tie.close (tie.spec
     (λ c. cc))  -- returns

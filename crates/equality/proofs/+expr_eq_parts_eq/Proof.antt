@@ -19,8 +19,8 @@ use Rattle.equality.proofs.+expr_eq_parts_eq.Lts-parts_eq as parts-eq-lts
 use Rattle.equality.proofs.+expr_eq_parts_eq.{statement}
 use Rattle.equality.proofs.+expr_eq_parts_eq.Tie.{close}
 
-pub +expr-eq-parts-eq-spec : {M : Type 1} → statement M
-+expr-eq-parts-eq-spec =
+pub +expr_eq_parts_eq_spec : {M : Type 1} → statement M
++expr_eq_parts_eq_spec =
     close
     (λ κs a. 2 * length a.0.now)  -- μ-expr-eq
     (λ κs a. 2 * length a.0.now + 1)  -- μ-parts-eq

@@ -5,8 +5,8 @@ use Rattle.equality.proofs.Amount.{no_member, member_is}
 use Rattle.equality.proofs.is_amount_of.Statement.{statement}
 use Rattle.equality.proofs.is_amount_of.Tie as tie
 
-pub is-amount-of-spec : {M : Type 1} → statement M
-is-amount-of-spec =
+pub is_amount_of_spec : {M : Type 1} → statement M
+is_amount_of_spec =
     tie.close
     (tie.spec
     (λ c κs. search rules)  -- tag-of-requires

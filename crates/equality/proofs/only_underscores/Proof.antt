@@ -29,8 +29,8 @@ module _ (s : List ℕ) (i k : ℕ) (v : Left s i k) where
   unfolding all
   no_more h = rw (drop_of_length-le s h) at v
 
-pub only-underscores-spec : {M : Type 1} → statement M
-only-underscores-spec =
+pub only_underscores_spec : {M : Type 1} → statement M
+only_underscores_spec =
     tie.close
     (tie.spec
     (λ s i k₀ k. Left s i k)  -- Inv-loop

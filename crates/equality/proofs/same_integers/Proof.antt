@@ -7,8 +7,8 @@ use Rattle.equality.proofs.Integers.{Stripping, left-inside, right-inside, strip
 use Rattle.equality.proofs.same_integers.Statement.{statement}
 use Rattle.equality.proofs.same_integers.Tie as tie
 
-pub same-integers-spec : {M : Type 1} → statement M
-same-integers-spec =
+pub same_integers_spec : {M : Type 1} → statement M
+same_integers_spec =
     tie.close
     (tie.spec
     (λ a b i₀ j₀ i j. Stripping a b i j)  -- Inv-loop

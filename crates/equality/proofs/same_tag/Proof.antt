@@ -22,8 +22,8 @@ module _ (a b : List ℕ) where
       eqb m n ≡ sameTag a b
   two-tags p q m n e f = rw (p, q, e, f)
 
-pub same-tag-spec : {M : Type 1} → statement M
-same-tag-spec =
+pub same_tag_spec : {M : Type 1} → statement M
+same_tag_spec =
     tie.close
     (tie.spec
     (λ c κs. search rules)  -- is-whole-requires

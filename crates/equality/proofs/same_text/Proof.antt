@@ -35,8 +35,8 @@ module _ (t : ℕ) (x y : List ℕ) where
     unfolding sameText
     others n = rw (ne_eqb t Integer n, h, or-false (eqb t Caller || eqb t Now), or-false (eqb t Caller || eqb t Now))
 
-pub same-text-spec : {M : Type 1} → statement M
-same-text-spec =
+pub same_text_spec : {M : Type 1} → statement M
+same_text_spec =
     tie.close (tie.spec
     (λ c κs. search rules)  -- same-bytes-requires
     (λ c. search words)  -- returns

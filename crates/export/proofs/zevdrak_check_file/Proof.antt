@@ -25,8 +25,8 @@ module _ (q : Asked) (a : Answer) (e : asked a ≡ q) where
     place-told : (p : ℕ) → k ≡ place_in q p
     place-told p = rw (← e, h)
 
-pub zevdrak-check-file-spec : {M : Type 1} → statement M
-zevdrak-check-file-spec =
+pub zevdrak_check_file_spec : {M : Type 1} → statement M
+zevdrak_check_file_spec =
     tie.close
     (tie.spec
     (λ c κs. search rules)  -- check-file-requires

@@ -5,8 +5,8 @@ use Rattle.export.proofs.Asked.{too_long, told_of}
 use Rattle.export.proofs.zevdrak_is_reserve_token.Statement.{statement}
 use Rattle.export.proofs.zevdrak_is_reserve_token.Tie as tie
 
-pub zevdrak-is-reserve-token-spec : {M : Type 1} → statement M
-zevdrak-is-reserve-token-spec =
+pub zevdrak_is_reserve_token_spec : {M : Type 1} → statement M
+zevdrak_is_reserve_token_spec =
     tie.close (tie.spec
     (λ c. search too_long)  -- returns
     (λ c. search rules)  -- slice-aggregate-reserve-token

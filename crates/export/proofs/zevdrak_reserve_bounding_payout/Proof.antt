@@ -46,8 +46,8 @@ module _ (file : List ℕ) (n k : ℕ) where
         go none g = cc
         go (some x) g = absurd (false≢true cc)
 
-pub zevdrak-reserve-bounding-payout-spec : {M : Type 1} → statement M
-zevdrak-reserve-bounding-payout-spec =
+pub zevdrak_reserve_bounding_payout_spec : {M : Type 1} → statement M
+zevdrak_reserve_bounding_payout_spec =
     tie.close
     (tie.spec
     (λ c. search too_long)  -- returns

@@ -5,8 +5,8 @@ use Rattle.claim.proofs.Claim.{demand-3-of}
 use Rattle.export.proofs.zevdrak_verdict.Statement.{statement}
 use Rattle.export.proofs.zevdrak_verdict.Tie as tie
 
-pub zevdrak-verdict-spec : {M : Type 1} → statement M
-zevdrak-verdict-spec =
+pub zevdrak_verdict_spec : {M : Type 1} → statement M
+zevdrak_verdict_spec =
     tie.close (tie.spec
     (λ c κs. search rules)  -- file-verdict-requires
     (λ c κs. search rules)  -- numbers-of-requires

@@ -4,8 +4,8 @@ use borrow.Author.Rules.{rules}
 use Rattle.grammar.proofs.expression_slots.Statement.{statement}
 use Rattle.grammar.proofs.expression_slots.Tie as tie
 
-pub expression-slots-spec : {M : Type 1} → statement M
-expression-slots-spec =
+pub expression_slots_spec : {M : Type 1} → statement M
+expression_slots_spec =
     tie.close
     (tie.spec
     (λ c κs. search rules)  -- row-requires

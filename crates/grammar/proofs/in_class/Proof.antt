@@ -21,8 +21,8 @@ class-read : (c t : ℕ) (i l m e : Bool) → i ≡ isItem t → l ≡ isClause 
 unfolding inClass
 class-read c t i l m e p q r s = rw (p, q, r, s)
 
-pub in-class-spec : {M : Type 1} → of.statement M
-in-class-spec =
+pub in_class_spec : {M : Type 1} → of.statement M
+in_class_spec =
     tie.close
     (tie.spec
     (λ c κs. search rules)  -- is-item-requires

@@ -5,8 +5,8 @@ use borrow.Author.Rules.{rules}
 use Rattle.grammar.proofs.item_slots.Statement.{statement}
 use Rattle.grammar.proofs.item_slots.Tie as tie
 
-pub item-slots-spec : {M : Type 1} → statement M
-item-slots-spec =
+pub item_slots_spec : {M : Type 1} → statement M
+item_slots_spec =
     tie.close
     (tie.spec
     (λ c κs. search rules)  -- row-requires

@@ -4,8 +4,8 @@ use borrow.Author.Rules.{rules}
 use Rattle.grammar.proofs.slots_of.Statement.{statement}
 use Rattle.grammar.proofs.slots_of.Tie as tie
 
-pub slots-of-spec : {M : Type 1} → statement M
-slots-of-spec =
+pub slots_of_spec : {M : Type 1} → statement M
+slots_of_spec =
     tie.close
     (tie.spec
     (λ c κs. search rules)  -- is-expression-requires

@@ -5,8 +5,8 @@ use borrow.Author.Rules.{rules}
 use Rattle.grammar.proofs.statement_slots.Statement.{statement}
 use Rattle.grammar.proofs.statement_slots.Tie as tie
 
-pub statement-slots-spec : {M : Type 1} → statement M
-statement-slots-spec =
+pub statement_slots_spec : {M : Type 1} → statement M
+statement_slots_spec =
     tie.close
     (tie.spec
     (λ c κs. search rules)  -- is-assign-requires

@@ -39,8 +39,8 @@ module _ (s name : List ℕ) where
     unfolding any
     none w = rw w at i
 
-pub has-state-spec : {M : Type 1} → statement M
-has-state-spec =
+pub has_state_spec : {M : Type 1} → statement M
+has_state_spec =
     tie.close
     (tie.spec
     (λ s name t₀ t. anyAhead name t ≡ any (sameBytes name) (stateNames (fields s)))  -- Inv-loop

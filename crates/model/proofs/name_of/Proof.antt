@@ -11,8 +11,8 @@ use Rattle.model.proofs.name_of.Tie as tie
 name-read : (s x y : List ℕ) → front x ≡ part 0 (front s) → y ≡ text (front x) → y ≡ name_of (front s)
 name-read s x y e f = rw (← e) f
 
-pub name-of-spec : {M : Type 1} → statement M
-name-of-spec =
+pub name_of_spec : {M : Type 1} → statement M
+name_of_spec =
     tie.close
     (tie.spec
     (λ c κs. search rules)  -- part-of-requires

@@ -5,9 +5,9 @@ use Rattle.model.proofs.Accessors.{part-nth}
 use Rattle.model.proofs.nth_clause.Statement.{statement}
 use Rattle.model.proofs.nth_clause.Tie as tie
 
-pub nth-clause-spec : {M : Type 1} → statement M
+pub nth_clause_spec : {M : Type 1} → statement M
 unfolding clauses
-nth-clause-spec =
+nth_clause_spec =
     tie.close (tie.spec
     (λ c κs. search rules)  -- parts-of-requires
     (λ c κs. search rules)  -- nth-from-requires

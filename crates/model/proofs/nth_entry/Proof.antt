@@ -5,9 +5,9 @@ use Rattle.model.proofs.Accessors.{shown-nth}
 use Rattle.model.proofs.nth_entry.Statement.{statement}
 use Rattle.model.proofs.nth_entry.Tie as tie
 
-pub nth-entry-spec : {M : Type 1} → statement M
+pub nth_entry_spec : {M : Type 1} → statement M
 unfolding entries
-nth-entry-spec =
+nth_entry_spec =
     tie.close (tie.spec
     (λ c κs. search rules)  -- nth-from-requires
     (λ c. search shown-nth))  -- returns

@@ -5,9 +5,9 @@ use Rattle.model.proofs.Accessors.{inner-nth}
 use Rattle.model.proofs.nth_genesis.Statement.{statement}
 use Rattle.model.proofs.nth_genesis.Tie as tie
 
-pub nth-genesis-spec : {M : Type 1} → statement M
+pub nth_genesis_spec : {M : Type 1} → statement M
 unfolding genesis
-nth-genesis-spec =
+nth_genesis_spec =
     tie.close (tie.spec
     (λ c κs. search rules)  -- nth-from-requires
     (λ c κs. search rules)  -- part-of-requires

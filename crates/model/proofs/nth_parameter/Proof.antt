@@ -5,9 +5,9 @@ use Rattle.model.proofs.Accessors.{part-nth}
 use Rattle.model.proofs.nth_parameter.Statement.{statement}
 use Rattle.model.proofs.nth_parameter.Tie as tie
 
-pub nth-parameter-spec : {M : Type 1} → statement M
+pub nth_parameter_spec : {M : Type 1} → statement M
 unfolding params
-nth-parameter-spec =
+nth_parameter_spec =
     tie.close (tie.spec
     (λ c κs. search rules)  -- parts-of-requires
     (λ c κs. search rules)  -- nth-from-requires

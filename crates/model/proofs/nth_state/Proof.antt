@@ -5,9 +5,9 @@ use Rattle.model.proofs.Accessors.{shown-nth}
 use Rattle.model.proofs.nth_state.Statement.{statement}
 use Rattle.model.proofs.nth_state.Tie as tie
 
-pub nth-state-spec : {M : Type 1} → statement M
+pub nth_state_spec : {M : Type 1} → statement M
 unfolding states
-nth-state-spec =
+nth_state_spec =
     tie.close (tie.spec
     (λ c κs. search rules)  -- nth-from-requires
     (λ c. search shown-nth))  -- returns

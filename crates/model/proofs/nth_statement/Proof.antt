@@ -5,9 +5,9 @@ use Rattle.model.proofs.Accessors.{part-nth}
 use Rattle.model.proofs.nth_statement.Statement.{statement}
 use Rattle.model.proofs.nth_statement.Tie as tie
 
-pub nth-statement-spec : {M : Type 1} → statement M
+pub nth_statement_spec : {M : Type 1} → statement M
 unfolding body
-nth-statement-spec =
+nth_statement_spec =
     tie.close (tie.spec
     (λ c κs. search rules)  -- parts-of-requires
     (λ c κs. search rules)  -- nth-from-requires

@@ -4,8 +4,8 @@ use Rattle.output.proofs.Buffer.{written_byte, no_room}
 use Rattle.output.proofs.write_byte.Statement.{statement}
 use Rattle.output.proofs.write_byte.Tie as tie
 
-pub write-byte-spec : {M : Type 1} → statement M
-write-byte-spec =
+pub write_byte_spec : {M : Type 1} → statement M
+write_byte_spec =
     tie.close
     (tie.spec
     (λ c. search rules)  -- slice-write-buffer

@@ -6,8 +6,8 @@ use Rattle.output.proofs.Buffer.{Writing, writing-none, writing-room, writing-sa
 use Rattle.output.proofs.write_text.Statement.{statement}
 use Rattle.output.proofs.write_text.Tie as tie
 
-pub write-text-spec : {M : Type 1} → statement M
-write-text-spec =
+pub write_text_spec : {M : Type 1} → statement M
+write_text_spec =
     tie.close
     (tie.spec
     (λ text buffer₀ n i₀ m₀ buffer i m. Writing text buffer₀ n buffer i m)  -- Inv-loop

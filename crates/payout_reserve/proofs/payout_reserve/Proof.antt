@@ -4,8 +4,8 @@ use Rattle.payout_reserve.proofs.Reserving.{place_inside, reserve-missing, reser
 use Rattle.payout_reserve.proofs.payout_reserve.Statement.{statement}
 use Rattle.payout_reserve.proofs.payout_reserve.Tie as tie
 
-pub payout-reserve-spec : {M : Type 1} → statement M
-payout-reserve-spec =
+pub payout_reserve_spec : {M : Type 1} → statement M
+payout_reserve_spec =
     tie.close
     (tie.spec
     (λ c κs. search rules)  -- place-of-entry-requires

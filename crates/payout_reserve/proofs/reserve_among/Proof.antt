@@ -4,8 +4,8 @@ use Rattle.payout_reserve.proofs.Reserving.{payout-missing, payout-among, payout
 use Rattle.payout_reserve.proofs.reserve_among.Statement.{statement}
 use Rattle.payout_reserve.proofs.reserve_among.Tie as tie
 
-pub reserve-among-spec : {M : Type 1} → statement M
-reserve-among-spec =
+pub reserve_among_spec : {M : Type 1} → statement M
+reserve_among_spec =
     tie.close
     (tie.spec
     (λ c. search rules)  -- slice-aggregate-list-payouts

@@ -4,8 +4,8 @@ use Rattle.payout_reserve.proofs.Reserving.{all_fit, all-part, all-calls}
 use Rattle.payout_reserve.proofs.reserve_at.Statement.{statement}
 use Rattle.payout_reserve.proofs.reserve_at.Tie as tie
 
-pub reserve-at-spec : {M : Type 1} → statement M
-reserve-at-spec =
+pub reserve_at_spec : {M : Type 1} → statement M
+reserve_at_spec =
     tie.close
     (tie.spec
     (λ c. search rules)  -- slice-aggregate-list-body

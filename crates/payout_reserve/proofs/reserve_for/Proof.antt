@@ -5,8 +5,8 @@ use Rattle.payout_reserve.proofs.Reserving.{alone-fit, alone-part, alone-listed,
 use Rattle.payout_reserve.proofs.reserve_for.Statement.{statement}
 use Rattle.payout_reserve.proofs.reserve_for.Tie as tie
 
-pub reserve-for-spec : {M : Type 1} → statement M
-reserve-for-spec =
+pub reserve_for_spec : {M : Type 1} → statement M
+reserve_for_spec =
     tie.close
     (tie.spec
     (λ c. search rules)  -- mul-paid

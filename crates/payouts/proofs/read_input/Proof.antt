@@ -7,8 +7,8 @@ use lib.ListN.{length}
 use Rattle.payouts.proofs.read_input.Statement.{statement}
 use Rattle.payouts.proofs.read_input.Tie as tie
 
-pub read-input-spec : {M : Type 1} → statement M
-read-input-spec =
+pub read_input_spec : {M : Type 1} → statement M
+read_input_spec =
     tie.close
     (tie.spec
     (λ buffer₀ n₀ buffer n. (n ≤ length buffer) × (length buffer ≡ length buffer₀))  -- Inv-loop

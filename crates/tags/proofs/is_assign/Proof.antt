@@ -2,8 +2,8 @@ use Rattle.tags.specs.Tag.{isAssign}
 use Rattle.tags.proofs.is_assign.Statement.{statement}
 use Rattle.tags.proofs.is_assign.Tie as tie
 
-pub is-assign-spec : {M : Type 1} → statement M
+pub is_assign_spec : {M : Type 1} → statement M
 unfolding isAssign
-is-assign-spec =
+is_assign_spec =
     tie.close (tie.spec
     (λ c. cc))  -- returns

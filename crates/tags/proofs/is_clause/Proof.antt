@@ -2,8 +2,8 @@ use Rattle.tags.specs.Tag.{isClause}
 use Rattle.tags.proofs.is_clause.Statement.{statement}
 use Rattle.tags.proofs.is_clause.Tie as tie
 
-pub is-clause-spec : {M : Type 1} → statement M
+pub is_clause_spec : {M : Type 1} → statement M
 unfolding isClause
-is-clause-spec =
+is_clause_spec =
     tie.close (tie.spec
     (λ c. cc))  -- returns

@@ -2,8 +2,8 @@ use Rattle.tags.specs.Tag.{composite}
 use Rattle.tags.proofs.is_composite.Statement.{statement}
 use Rattle.tags.proofs.is_composite.Tie as tie
 
-pub is-composite-spec : {M : Type 1} → statement M
+pub is_composite_spec : {M : Type 1} → statement M
 unfolding composite
-is-composite-spec =
+is_composite_spec =
     tie.close (tie.spec
     (λ c. cc))  -- returns

@@ -2,8 +2,8 @@ use Rattle.tags.specs.Tag.{isWrapper}
 use Rattle.tags.proofs.is_wrapper.Statement.{statement}
 use Rattle.tags.proofs.is_wrapper.Tie as tie
 
-pub is-wrapper-spec : {M : Type 1} → statement M
+pub is_wrapper_spec : {M : Type 1} → statement M
 unfolding isWrapper
-is-wrapper-spec =
+is_wrapper_spec =
     tie.close (tie.spec
     (λ c. cc))  -- returns

@@ -4,8 +4,8 @@ use Rattle.backings.proofs.Reading.{remembered-token, worked-out-token}
 use Rattle.backings.proofs.backing.admitted_number.Statement.{statement}
 use Rattle.backings.proofs.backing.admitted_number.Tie as tie
 
-pub admitted-number-spec : {M : Type 1} → statement M
-admitted-number-spec =
+pub admitted_number_spec : {M : Type 1} → statement M
+admitted_number_spec =
     tie.close (tie.spec
     (λ c. search remembered-token)  -- returns
     (λ c κs. search rules)  -- tokens-number-requires

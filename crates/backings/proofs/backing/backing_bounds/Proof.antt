@@ -14,8 +14,8 @@ bounds-read : (a f : Field) (k r : Bool) (x : List ℕ) → backingField k x ≡
     r ≡ boundedByBacking f a false
 bounds-read a f k r x e g = rw (← e) g
 
-pub backing-bounds-spec : {M : Type 1} → statement M
-backing-bounds-spec =
+pub backing_bounds_spec : {M : Type 1} → statement M
+backing_bounds_spec =
     tie.close (tie.spec
     (λ c κs. search rules)  -- backing-part-requires
     (λ c κs. search rules)  -- bounded-by-requires

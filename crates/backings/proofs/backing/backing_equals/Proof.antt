@@ -13,8 +13,8 @@ use Rattle.backings.proofs.backing.backing_equals.Tie as tie
 equals-read : (a f : Field) (k r : Bool) (x : List ℕ) → backingField k x ≡ a → r ≡ exprEq (backingField k x) f → r ≡ exprEq a f
 equals-read a f k r x e g = rw (← e) g
 
-pub backing-equals-spec : {M : Type 1} → statement M
-backing-equals-spec =
+pub backing_equals_spec : {M : Type 1} → statement M
+backing_equals_spec =
     tie.close (tie.spec
     (λ c κs. search rules)  -- backing-part-requires
     (λ c κs. search rules)  -- backing-eq-requires

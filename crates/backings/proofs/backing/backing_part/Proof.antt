@@ -4,8 +4,8 @@ use Rattle.backings.proofs.Reading.{debit-part, parameter-part}
 use Rattle.backings.proofs.backing.backing_part.Statement.{statement}
 use Rattle.backings.proofs.backing.backing_part.Tie as tie
 
-pub backing-part-spec : {M : Type 1} → statement M
-backing-part-spec =
+pub backing_part_spec : {M : Type 1} → statement M
+backing_part_spec =
     tie.close
     (tie.spec
     (λ c κs. search rules)  -- skip-requires

@@ -11,8 +11,8 @@ use Rattle.backings.proofs.backing.debit_amount.Tie as tie
 amount-read : (s x y : List ℕ) → front x ≡ part 2 (front s) → front y ≡ peel (front x) → front y ≡ peel (part 2 (front s))
 amount-read s x y e f = rw (← e) f
 
-pub debit-amount-spec : {M : Type 1} → statement M
-debit-amount-spec =
+pub debit_amount_spec : {M : Type 1} → statement M
+debit_amount_spec =
     tie.close (tie.spec
     (λ c κs. search rules)  -- part-of-requires
     (λ c κs. search rules)  -- peel-requires

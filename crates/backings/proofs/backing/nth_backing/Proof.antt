@@ -2,8 +2,8 @@ use borrow.Author.Rules.{rules}
 use Rattle.backings.proofs.backing.nth_backing.Statement.{statement}
 use Rattle.backings.proofs.backing.nth_backing.Tie as tie
 
-pub nth-backing-spec : {M : Type 1} → statement M
-nth-backing-spec =
+pub nth_backing_spec : {M : Type 1} → statement M
+nth_backing_spec =
     tie.close (tie.spec
     (λ c κs. search rules)  -- number-at-requires
     (λ c. cc))  -- returns

@@ -4,8 +4,8 @@ use Rattle.backings.proofs.Reading.{small-rest, entry-admits, file-admits, debit
 use Rattle.backings.proofs.backing.tokens_conflict.Statement.{statement}
 use Rattle.backings.proofs.backing.tokens_conflict.Tie as tie
 
-pub tokens-conflict-spec : {M : Type 1} → statement M
-tokens-conflict-spec =
+pub tokens_conflict_spec : {M : Type 1} → statement M
+tokens_conflict_spec =
     tie.close
     (tie.spec
     (λ c κs. search rules)  -- number-at-requires

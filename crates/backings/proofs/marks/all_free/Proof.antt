@@ -4,8 +4,8 @@ use Rattle.backings.specs.Marked.{allFree}
 use Rattle.backings.proofs.marks.all_free.Statement.{statement}
 use Rattle.backings.proofs.marks.all_free.Tie as tie
 
-pub all-free-spec : {M : Type 1} → statement M
+pub all_free_spec : {M : Type 1} → statement M
 unfolding allFree
-all-free-spec =
+all_free_spec =
     tie.close (tie.spec
     (λ c. refl))  -- returns

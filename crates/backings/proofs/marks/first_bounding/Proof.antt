@@ -10,8 +10,8 @@ use Rattle.backings.proofs.Marking.{free-bounding}
 use Rattle.backings.proofs.marks.first_bounding.Statement.{statement}
 use Rattle.backings.proofs.marks.first_bounding.Tie as tie
 
-pub first-bounding-spec : {M : Type 1} → statement M
-first-bounding-spec =
+pub first_bounding_spec : {M : Type 1} → statement M
+first_bounding_spec =
     tie.close
     (tie.spec
     (λ file s amount free backed debits total i₀ i. Scanning (freeIn file backed debits free (boundedBy (payoutAmount (front s)))) total i)  -- Inv-loop

@@ -10,8 +10,8 @@ use Rattle.backings.proofs.Marking.{free-equal}
 use Rattle.backings.proofs.marks.first_equal.Statement.{statement}
 use Rattle.backings.proofs.marks.first_equal.Tie as tie
 
-pub first-equal-spec : {M : Type 1} → statement M
-first-equal-spec =
+pub first_equal_spec : {M : Type 1} → statement M
+first_equal_spec =
     tie.close
     (tie.spec
     (λ file s amount free backed debits total i₀ i. Scanning (freeIn file backed debits free (equalTo (payoutAmount (front s)))) total i)  -- Inv-loop

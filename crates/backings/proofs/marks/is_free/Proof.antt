@@ -4,8 +4,8 @@ use Rattle.backings.proofs.Marking.{free_in, free-out}
 use Rattle.backings.proofs.marks.is_free.Statement.{statement}
 use Rattle.backings.proofs.marks.is_free.Tie as tie
 
-pub is-free-spec : {M : Type 1} → statement M
-is-free-spec =
+pub is_free_spec : {M : Type 1} → statement M
+is_free_spec =
     tie.close (tie.spec
     (λ c. search rules)  -- element-copy-out-result
     (λ c. search free_in)  -- returns

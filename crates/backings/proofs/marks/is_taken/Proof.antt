@@ -10,8 +10,8 @@ use Rattle.backings.proofs.Marking.{scanning-no, scanning-yes, taken-equal}
 use Rattle.backings.proofs.marks.is_taken.Statement.{statement}
 use Rattle.backings.proofs.marks.is_taken.Tie as tie
 
-pub is-taken-spec : {M : Type 1} → statement M
-is-taken-spec =
+pub is_taken_spec : {M : Type 1} → statement M
+is_taken_spec =
     tie.close
     (tie.spec
     (λ file s amount free backed debits total i₀ i. Scanning (takenIn file backed debits free (equalTo (payoutAmount (front s)))) total i)  -- Inv-loop

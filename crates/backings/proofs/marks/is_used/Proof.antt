@@ -5,8 +5,8 @@ use Rattle.backings.proofs.Marking.{Unused, unused-all, unused_found, unused-on}
 use Rattle.backings.proofs.marks.is_used.Statement.{statement}
 use Rattle.backings.proofs.marks.is_used.Tie as tie
 
-pub is-used-spec : {M : Type 1} → statement M
-is-used-spec =
+pub is_used_spec : {M : Type 1} → statement M
+is_used_spec =
     tie.close
     (tie.spec
     (λ marks index i₀ i. Unused marks index i)  -- Inv-loop

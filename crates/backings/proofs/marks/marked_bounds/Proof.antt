@@ -4,8 +4,8 @@ use Rattle.backings.proofs.Marking.{marked-not, marked-so}
 use Rattle.backings.proofs.marks.marked_bounds.Statement.{statement}
 use Rattle.backings.proofs.marks.marked_bounds.Tie as tie
 
-pub marked-bounds-spec : {M : Type 1} → statement M
-marked-bounds-spec =
+pub marked_bounds_spec : {M : Type 1} → statement M
+marked_bounds_spec =
     tie.close (tie.spec
     (λ c. search marked-not)  -- returns
     (λ c κs. search rules)  -- backing-bounds-requires

@@ -4,8 +4,8 @@ use Rattle.backings.proofs.Marking.{without_in, without-out}
 use Rattle.backings.proofs.marks.take_backing.Statement.{statement}
 use Rattle.backings.proofs.marks.take_backing.Tie as tie
 
-pub take-backing-spec : {M : Type 1} → statement M
-take-backing-spec =
+pub take_backing_spec : {M : Type 1} → statement M
+take_backing_spec =
     tie.close (tie.spec
     (λ c. search rules)  -- element-write-marks
     (λ c. search without_in)  -- returns

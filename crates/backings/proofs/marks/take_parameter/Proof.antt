@@ -4,8 +4,8 @@ use Rattle.backings.proofs.Marking.{many-debits, far-parameter}
 use Rattle.backings.proofs.marks.take_parameter.Statement.{statement}
 use Rattle.backings.proofs.marks.take_parameter.Tie as tie
 
-pub take-parameter-spec : {M : Type 1} → statement M
-take-parameter-spec =
+pub take_parameter_spec : {M : Type 1} → statement M
+take_parameter_spec =
     tie.close (tie.spec
     (λ c. search many-debits)  -- returns
     (λ c. search far-parameter)  -- returns-2

@@ -4,8 +4,8 @@ use Rattle.backings.proofs.Marking.{with_in, with_out}
 use Rattle.backings.proofs.marks.take_reserve.Statement.{statement}
 use Rattle.backings.proofs.marks.take_reserve.Tie as tie
 
-pub take-reserve-spec : {M : Type 1} → statement M
-take-reserve-spec =
+pub take_reserve_spec : {M : Type 1} → statement M
+take_reserve_spec =
     tie.close (tie.spec
     (λ c. search rules)  -- mul-marks
     (λ c. search rules)  -- element-write-marks

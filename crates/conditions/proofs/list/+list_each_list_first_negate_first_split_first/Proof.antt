@@ -26,8 +26,8 @@ use Rattle.fields.proofs.table.note.Reads as note-reads
 use Rattle.conditions.proofs.list.+list_each_list_first_negate_first_split_first.{statement}
 use Rattle.conditions.proofs.list.+list_each_list_first_negate_first_split_first.Tie.{close}
 
-pub +list-each-list-first-negate-first-split-first-spec : {M : Type 1} → statement M
-+list-each-list-first-negate-first-split-first-spec =
+pub +list_each_list_first_negate_first_split_first_spec : {M : Type 1} → statement M
++list_each_list_first_negate_first_split_first_spec =
     close
     (λ κs a. 2 * length a.0.now + 2)  -- μ-list-each
     (λ κs a. 2 * length a.0.now + 1)  -- μ-list-first

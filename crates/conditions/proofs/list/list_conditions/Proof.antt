@@ -30,8 +30,8 @@ module _ (x t u : List ℕ) (n : ℕ) (p : Listed (marks (conditionsFrom 5 6 3 (
   all_listed s f v r q =
       rw (← f, map-append mark (conditionsFrom 5 6 3 (fields x)) (conditionsFrom 16 16 3 (fields x))) (listed_then _ _ t u v 0 n r p q)
 
-pub list-conditions-spec : {M : Type 1} → statement M
-list-conditions-spec =
+pub list_conditions_spec : {M : Type 1} → statement M
+list_conditions_spec =
     tie.close
     (tie.spec
     (λ c κs. search rules)  -- parts-of-requires

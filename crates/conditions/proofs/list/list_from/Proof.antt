@@ -10,8 +10,8 @@ use Rattle.conditions.proofs.Ranging.{Ranging, ranging-first, ranging-on, rangin
 use Rattle.conditions.proofs.list.list_from.Statement.{statement}
 use Rattle.conditions.proofs.list.list_from.Tie as tie
 
-pub list-from-spec : {M : Type 1} → statement M
-list-from-spec =
+pub list_from_spec : {M : Type 1} → statement M
+list_from_spec =
     tie.close
     (tie.spec
     (λ s low high table₀ n t₀ m₀ table t m. Ranging s low high table₀ n table t m)  -- Inv-loop

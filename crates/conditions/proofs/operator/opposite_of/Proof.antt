@@ -4,9 +4,9 @@ use Rattle.conditions.specs.Conditions.{opposite}
 use Rattle.conditions.proofs.operator.opposite_of.Statement.{statement}
 use Rattle.conditions.proofs.operator.opposite_of.Tie as tie
 
-pub opposite-of-spec : {M : Type 1} → statement M
+pub opposite_of_spec : {M : Type 1} → statement M
 unfolding opposite
-opposite-of-spec =
+opposite_of_spec =
     tie.close (tie.spec
     (λ c. rw c.match.keys1)  -- returns
     (λ c. rw c.match.keys2)  -- returns-2

@@ -4,9 +4,9 @@ use Rattle.claim.specs.Verdict.{reason}
 use Rattle.contract.proofs.numbers.number_of.Statement.{statement}
 use Rattle.contract.proofs.numbers.number_of.Tie as tie
 
-pub number-of-spec : {M : Type 1} → statement M
+pub number_of_spec : {M : Type 1} → statement M
 unfolding reason
-number-of-spec =
+number_of_spec =
     tie.close
     (tie.spec
     (λ c. search rules)  -- enum-told

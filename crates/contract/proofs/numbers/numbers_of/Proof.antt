@@ -4,8 +4,8 @@ use Rattle.contract.proofs.Told.{accepted-numbered, rejected-numbered, refused-n
 use Rattle.contract.proofs.numbers.numbers_of.Statement.{statement}
 use Rattle.contract.proofs.numbers.numbers_of.Tie as tie
 
-pub numbers-of-spec : {M : Type 1} → statement M
-numbers-of-spec =
+pub numbers_of_spec : {M : Type 1} → statement M
+numbers_of_spec =
     tie.close
     (tie.spec
     (λ c. search rules)  -- enum-known-verdict

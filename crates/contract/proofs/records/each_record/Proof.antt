@@ -4,8 +4,8 @@ use Rattle.contract.proofs.Each.{asked-all, table-enough, refused-each}
 use Rattle.contract.proofs.records.each_record.Statement.{statement}
 use Rattle.contract.proofs.records.each_record.Tie as tie
 
-pub each-record-spec : {M : Type 1} → statement M
-each-record-spec =
+pub each_record_spec : {M : Type 1} → statement M
+each_record_spec =
     tie.close
     (tie.spec
     (λ c κs. search rules)  -- check-file-requires

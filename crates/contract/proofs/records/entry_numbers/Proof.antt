@@ -4,8 +4,8 @@ use Rattle.contract.proofs.Writing.{entry-told}
 use Rattle.contract.proofs.records.entry_numbers.Statement.{statement}
 use Rattle.contract.proofs.records.entry_numbers.Tie as tie
 
-pub entry-numbers-spec : {M : Type 1} → statement M
-entry-numbers-spec =
+pub entry_numbers_spec : {M : Type 1} → statement M
+entry_numbers_spec =
     tie.close
     (tie.spec
     (λ c κs. search rules)  -- less-requires

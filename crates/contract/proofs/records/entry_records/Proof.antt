@@ -8,8 +8,8 @@ use Rattle.contract.proofs.Recording.{Recording, recording-none, recording-same,
 use Rattle.contract.proofs.records.entry_records.Statement.{statement}
 use Rattle.contract.proofs.records.entry_records.Tie as tie
 
-pub entry-records-spec : {M : Type 1} → statement M
-entry-records-spec =
+pub entry_records_spec : {M : Type 1} → statement M
+entry_records_spec =
     tie.close
     (tie.spec
     (λ file table₀ scratch₀ out₀ facts₀ t₀ recorded₀ table scratch out facts t recorded. Recording file table₀ scratch₀ out₀ table scratch out facts t recorded)  -- Inv-loop

@@ -14,8 +14,8 @@ module _ (a b : ℕ) where
   left-larger : b ≤ a → a ≡ cond (ltb a b) b a
   left-larger h = rw (le-ltb a b h)
 
-pub larger-spec : {M : Type 1} → statement M
-larger-spec =
+pub larger_spec : {M : Type 1} → statement M
+larger_spec =
     tie.close (tie.spec
     (λ c. search right-larger)  -- returns
     (λ c. search left-larger))  -- returns-2

@@ -4,8 +4,8 @@ use Rattle.contract.proofs.Writing.{more-here}
 use Rattle.contract.proofs.records.one_more.Statement.{statement}
 use Rattle.contract.proofs.records.one_more.Tie as tie
 
-pub one-more-spec : {M : Type 1} → statement M
-one-more-spec =
+pub one_more_spec : {M : Type 1} → statement M
+one_more_spec =
     tie.close
     (tie.spec
     (λ c. search rules)  -- slice-aggregate-entry-numbers

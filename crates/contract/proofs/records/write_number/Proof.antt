@@ -4,8 +4,8 @@ use Rattle.contract.proofs.Writing.{two-written}
 use Rattle.contract.proofs.records.write_number.Statement.{statement}
 use Rattle.contract.proofs.records.write_number.Tie as tie
 
-pub write-number-spec : {M : Type 1} → statement M
-write-number-spec =
+pub write_number_spec : {M : Type 1} → statement M
+write_number_spec =
     tie.close
     (tie.spec
     (λ c. search rules)  -- cast-write-byte

@@ -4,8 +4,8 @@ use Rattle.contract.proofs.Writing.{head-written}
 use Rattle.contract.proofs.records.write_numbers.Statement.{statement}
 use Rattle.contract.proofs.records.write_numbers.Tie as tie
 
-pub write-numbers-spec : {M : Type 1} → statement M
-write-numbers-spec =
+pub write_numbers_spec : {M : Type 1} → statement M
+write_numbers_spec =
     tie.close
     (tie.spec
     (λ c κs. search rules)  -- write-byte-requires

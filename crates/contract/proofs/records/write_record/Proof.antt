@@ -5,8 +5,8 @@ use Rattle.contract.proofs.Writing.{covers-fit, head-alone, covers-behind}
 use Rattle.contract.proofs.records.write_record.Statement.{statement}
 use Rattle.contract.proofs.records.write_record.Tie as tie
 
-pub write-record-spec : {M : Type 1} → statement M
-write-record-spec =
+pub write_record_spec : {M : Type 1} → statement M
+write_record_spec =
     tie.close
     (tie.spec
     (λ c κs. search rules)  -- write-numbers-requires

@@ -4,8 +4,8 @@ use Rattle.cursor.proofs.Steps.{part-found, part_cut, part-cut-head, part_end}
 use Rattle.cursor.proofs.Cursor.part.Statement.{statement}
 use Rattle.cursor.proofs.Cursor.part.Tie as tie
 
-pub part-spec : {M : Type 1} → statement M
-part-spec =
+pub part_spec : {M : Type 1} → statement M
+part_spec =
     tie.close
     (tie.spec
     (λ c κs. search rules)  -- head-requires

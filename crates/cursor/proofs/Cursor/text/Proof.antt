@@ -4,8 +4,8 @@ use Rattle.cursor.proofs.Steps.{in-range, text-found, text-cut}
 use Rattle.cursor.proofs.Cursor.text.Statement.{statement}
 use Rattle.cursor.proofs.Cursor.text.Tie as tie
 
-pub text-spec : {M : Type 1} → statement M
-text-spec =
+pub text_spec : {M : Type 1} → statement M
+text_spec =
     tie.close
     (tie.spec
     (λ c κs. search rules)  -- skip-requires

@@ -7,8 +7,8 @@ use Rattle.entries.proofs.Choosing.{Choosing, choosing-none, choosing-same, choo
 use Rattle.entries.proofs.calls.list_debits.Statement.{statement}
 use Rattle.entries.proofs.calls.list_debits.Tie as tie
 
-pub list-debits-spec : {M : Type 1} → statement M
-list-debits-spec =
+pub list_debits_spec : {M : Type 1} → statement M
+list_debits_spec =
     tie.close
     (tie.spec
     (λ file calls table₀ i₀ n₀ table i n. Choosing file isDebit calls table₀ table i n)  -- Inv-loop

@@ -9,8 +9,8 @@ use Rattle.entries.proofs.Naming.{Naming, naming-first, naming-end, naming-place
 use Rattle.entries.proofs.calls.list_parameters.Statement.{statement}
 use Rattle.entries.proofs.calls.list_parameters.Tie as tie
 
-pub list-parameters-spec : {M : Type 1} → statement M
-list-parameters-spec =
+pub list_parameters_spec : {M : Type 1} → statement M
+list_parameters_spec =
     tie.close
     (tie.spec
     (λ file place table₀ n row t₀ m₀ table t m. Naming row (place + 3) n table₀ table t m)  -- Inv-loop

@@ -7,8 +7,8 @@ use Rattle.entries.proofs.Choosing.{Choosing, choosing-none, choosing-same, choo
 use Rattle.entries.proofs.calls.list_payouts.Statement.{statement}
 use Rattle.entries.proofs.calls.list_payouts.Tie as tie
 
-pub list-payouts-spec : {M : Type 1} → statement M
-list-payouts-spec =
+pub list_payouts_spec : {M : Type 1} → statement M
+list_payouts_spec =
     tie.close
     (tie.spec
     (λ file calls table₀ i₀ n₀ table i n. Choosing file isPayout calls table₀ table i n)  -- Inv-loop

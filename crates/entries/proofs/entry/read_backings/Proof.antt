@@ -4,8 +4,8 @@ use Rattle.entries.proofs.Reading.{debits-standing, backings-read}
 use Rattle.entries.proofs.entry.read_backings.Statement.{statement}
 use Rattle.entries.proofs.entry.read_backings.Tie as tie
 
-pub read-backings-spec : {M : Type 1} → statement M
-read-backings-spec =
+pub read_backings_spec : {M : Type 1} → statement M
+read_backings_spec =
     tie.close
     (tie.spec
     (λ c. search rules)  -- slice-aggregate-list-debits

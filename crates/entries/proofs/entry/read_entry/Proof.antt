@@ -4,8 +4,8 @@ use Rattle.entries.proofs.Reading.{calls-fit, calls-part, calls-all}
 use Rattle.entries.proofs.entry.read_entry.Statement.{statement}
 use Rattle.entries.proofs.entry.read_entry.Tie as tie
 
-pub read-entry-spec : {M : Type 1} → statement M
-read-entry-spec =
+pub read_entry_spec : {M : Type 1} → statement M
+read_entry_spec =
     tie.close
     (tie.spec
     (λ c κs. search rules)  -- list-body-requires

@@ -39,8 +39,8 @@ module _ (a b : List ℕ) (i : ℕ) (v : Agree a b i) where
   unfolding sameBytes
   agree-all h = rw (drop_of_length-le a h, drop_of_length-le b {i = i} (omega arith)) at v.left
 
-pub same-bytes-spec : {M : Type 1} → statement M
-same-bytes-spec =
+pub same_bytes_spec : {M : Type 1} → statement M
+same_bytes_spec =
     tie.close
     (tie.spec
     (λ a b i₀ i. Agree a b i)  -- Inv-loop

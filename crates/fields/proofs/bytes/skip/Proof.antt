@@ -3,8 +3,8 @@ use borrow.Author.Rules.{rules}
 use Rattle.fields.proofs.bytes.skip.Statement.{statement}
 use Rattle.fields.proofs.bytes.skip.Tie as tie
 
-pub skip-spec : {M : Type 1} → statement M
-skip-spec =
+pub skip_spec : {M : Type 1} → statement M
+skip_spec =
     tie.close
     (tie.spec
     (λ c. search rules)  -- sub-result

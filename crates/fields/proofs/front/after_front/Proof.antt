@@ -11,8 +11,8 @@ use Rattle.fields.proofs.front.after_front.Tie as tie
 after_read : (s x : List ℕ) (n : ℕ) → n ≡ length_of s → x ≡ drop (3 + n) s → x ≡ after s
 after_read s x n e f = rw (← e) f
 
-pub after-front-spec : {M : Type 1} → statement M
-after-front-spec =
+pub after_front_spec : {M : Type 1} → statement M
+after_front_spec =
     tie.close
     (tie.spec
     (λ c κs. search rules)  -- length-of-requires

@@ -26,8 +26,8 @@ module _ (s : List ℕ) (low high : ℕ) (t : List ℕ) (i : from low high t ≡
   done : whole t ≡ false → (u : List ℕ) → u ≡ drop (length t) t → u ≡ from low high s
   done w u f = f ∙ drop-length t ∙ sym (from_end low high t w) ∙ i
 
-pub first-from-spec : {M : Type 1} → statement M
-first-from-spec =
+pub first_from_spec : {M : Type 1} → statement M
+first_from_spec =
     tie.close
     (tie.spec
     (λ s low high t₀ t. from low high t ≡ from low high s)  -- Inv-loop

@@ -11,8 +11,8 @@ use Rattle.fields.proofs.front.front_content.Tie as tie
 content-read : (s x y : List ℕ) (n : ℕ) → x ≡ drop 3 s → n ≡ length_of s → y ≡ take n x → y ≡ content s
 content-read s x y n e f g = rw (← e, ← f) g
 
-pub front-content-spec : {M : Type 1} → statement M
-front-content-spec =
+pub front_content_spec : {M : Type 1} → statement M
+front_content_spec =
     tie.close
     (tie.spec
     (λ c κs. search rules)  -- skip-requires

@@ -18,8 +18,8 @@ no-head s h = sym (lt-leb (3 + length_of s) (length s) (omega arith))
 whole-read : (s : List ℕ) (n : ℕ) → n ≡ length_of s → leb (3 + n) (length s) ≡ whole s
 whole-read s n e = rw e
 
-pub is-whole-spec : {M : Type 1} → statement M
-is-whole-spec =
+pub is_whole_spec : {M : Type 1} → statement M
+is_whole_spec =
     tie.close
     (tie.spec
     (λ c. search no-head)  -- returns

@@ -6,8 +6,8 @@ use Rattle.fields.proofs.Places.{Passed, passed_none, passed-one, passed-all, pa
 use Rattle.fields.proofs.front.nth_field.Statement.{statement}
 use Rattle.fields.proofs.front.nth_field.Tie as tie
 
-pub nth-field-spec : {M : Type 1} → statement M
-nth-field-spec =
+pub nth_field_spec : {M : Type 1} → statement M
+nth_field_spec =
     tie.close
     (tie.spec
     (λ s n t₀ i₀ t i. Passed s n t i)  -- Inv-loop

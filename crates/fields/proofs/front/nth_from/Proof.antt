@@ -36,8 +36,8 @@ module _ (s : List ℕ) (low high n : ℕ) where
         let p : i + (n - i) ≡ n = omega arith in
         z ∙ sym (rw p at (nth_end low high (n - i) i s (sym v.here ∙ z)))
 
-pub nth-from-spec : {M : Type 1} → statement M
-nth-from-spec =
+pub nth_from_spec : {M : Type 1} → statement M
+nth_from_spec =
     tie.close
     (tie.spec
     (λ s low high n t₀ i₀ t i. Passed s low high n t i)  -- Inv-loop

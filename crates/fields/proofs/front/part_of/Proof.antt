@@ -16,8 +16,8 @@ module _ (s x y : List ℕ) (n : ℕ) (e : fields x ≡ parts (front s)) where
       y ≡ drop (place_of n (parts (front s))) (take (sizes (parts (front s))) (drop 3 s))
   part-shown f g = rw (← f, ← e) g
 
-pub part-of-spec : {M : Type 1} → statement M
-part-of-spec =
+pub part_of_spec : {M : Type 1} → statement M
+part_of_spec =
     tie.close
     (tie.spec
     (λ c κs. search rules)  -- parts-of-requires

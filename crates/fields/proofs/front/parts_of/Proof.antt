@@ -4,8 +4,8 @@ use Rattle.fields.proofs.Parts.{parts-front, parts-shown, no-parts, no-parts-sho
 use Rattle.fields.proofs.front.parts_of.Statement.{statement}
 use Rattle.fields.proofs.front.parts_of.Tie as tie
 
-pub parts-of-spec : {M : Type 1} → statement M
-parts-of-spec =
+pub parts_of_spec : {M : Type 1} → statement M
+parts_of_spec =
     tie.close
     (tie.spec
     (λ c κs. search rules)  -- is-whole-requires

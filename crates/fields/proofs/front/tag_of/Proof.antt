@@ -5,8 +5,8 @@ use Rattle.fields.proofs.Parts.{tag-front, tag-none}
 use Rattle.fields.proofs.front.tag_of.Statement.{statement}
 use Rattle.fields.proofs.front.tag_of.Tie as tie
 
-pub tag-of-spec : {M : Type 1} → statement M
-tag-of-spec =
+pub tag_of_spec : {M : Type 1} → statement M
+tag_of_spec =
     tie.close
     (tie.spec
     (λ c κs. search rules)  -- is-whole-requires

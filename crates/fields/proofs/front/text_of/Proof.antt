@@ -4,8 +4,8 @@ use Rattle.fields.proofs.Parts.{text-front, text-shown, no_text, no-text-shown}
 use Rattle.fields.proofs.front.text_of.Statement.{statement}
 use Rattle.fields.proofs.front.text_of.Tie as tie
 
-pub text-of-spec : {M : Type 1} → statement M
-text-of-spec =
+pub text_of_spec : {M : Type 1} → statement M
+text_of_spec =
     tie.close
     (tie.spec
     (λ c κs. search rules)  -- is-whole-requires

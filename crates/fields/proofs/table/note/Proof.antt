@@ -4,8 +4,8 @@ use Rattle.fields.proofs.Tables.{missed, noted, no_room}
 use Rattle.fields.proofs.table.note.Statement.{statement}
 use Rattle.fields.proofs.table.note.Tie as tie
 
-pub note-spec : {M : Type 1} → statement M
-note-spec =
+pub note_spec : {M : Type 1} → statement M
+note_spec =
     tie.close
     (tie.spec
     (λ c. search missed)  -- returns

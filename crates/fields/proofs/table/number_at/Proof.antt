@@ -4,8 +4,8 @@ use borrow.Author.Rules.{rules}
 use Rattle.fields.proofs.table.number_at.Statement.{statement}
 use Rattle.fields.proofs.table.number_at.Tie as tie
 
-pub number-at-spec : {M : Type 1} → statement M
-number-at-spec =
+pub number_at_spec : {M : Type 1} → statement M
+number_at_spec =
     tie.close (tie.spec
     (λ c. search rules)  -- mul-wide
     (λ c. search rules)  -- shared-slice-read-wide

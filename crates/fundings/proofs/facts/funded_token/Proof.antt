@@ -4,8 +4,8 @@ use Rattle.fundings.proofs.Shown.{funding-read}
 use Rattle.fundings.proofs.facts.funded_token.Statement.{statement}
 use Rattle.fundings.proofs.facts.funded_token.Tie as tie
 
-pub funded-token-spec : {M : Type 1} → statement M
-funded-token-spec =
+pub funded_token_spec : {M : Type 1} → statement M
+funded_token_spec =
     tie.close (tie.spec
     (λ c κs. search rules)  -- funding-number-requires
     (λ c κs. search rules)  -- token-of-requires

@@ -5,8 +5,8 @@ use Rattle.fundings.proofs.Through.{through-fits, through-room, through-listed, 
 use Rattle.fundings.proofs.facts.funding_number.Statement.{statement}
 use Rattle.fundings.proofs.facts.funding_number.Tie as tie
 
-pub funding-number-spec : {M : Type 1} → statement M
-funding-number-spec =
+pub funding_number_spec : {M : Type 1} → statement M
+funding_number_spec =
     tie.close
     (tie.spec
     (λ c κs. search rules)  -- number-at-requires

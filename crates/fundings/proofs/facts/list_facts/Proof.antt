@@ -4,8 +4,8 @@ use Rattle.fundings.proofs.Relisting.{relisted-none, relisted-all}
 use Rattle.fundings.proofs.facts.list_facts.Statement.{statement}
 use Rattle.fundings.proofs.facts.list_facts.Tie as tie
 
-pub list-facts-spec : {M : Type 1} → statement M
-list-facts-spec =
+pub list_facts_spec : {M : Type 1} → statement M
+list_facts_spec =
     tie.close
     (tie.spec
     (λ c κs. search rules)  -- number-at-requires

@@ -9,8 +9,8 @@ use Rattle.fundings.proofs.Funded.{fundingAt, funding-all, funding-found, fundin
 use Rattle.fundings.proofs.funding.entry_funds.Statement.{statement}
 use Rattle.fundings.proofs.funding.entry_funds.Tie as tie
 
-pub entry-funds-spec : {M : Type 1} → statement M
-entry-funds-spec =
+pub entry_funds_spec : {M : Type 1} → statement M
+entry_funds_spec =
     tie.close
     (tie.spec
     (λ s map calls count i₀ i. Seeking (fundingAt map s) calls count i (funds map (front s)))  -- Inv-loop

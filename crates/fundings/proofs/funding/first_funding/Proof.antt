@@ -12,8 +12,8 @@ use Rattle.fields.proofs.Tails.{tail-first, tail-next}
 use Rattle.fundings.proofs.funding.first_funding.Statement.{statement}
 use Rattle.fundings.proofs.funding.first_funding.Tie as tie
 
-pub first-funding-spec : {M : Type 1} → statement M
-first-funding-spec =
+pub first_funding_spec : {M : Type 1} → statement M
+first_funding_spec =
     tie.close
     (tie.spec
     (λ s map t₀ t. Choosing Entry Entry (funds map) s t × (t ≡ drop (length s - length t) s))  -- Inv-loop

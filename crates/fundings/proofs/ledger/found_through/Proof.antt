@@ -7,8 +7,8 @@ use Rattle.fundings.proofs.Through.{Going, going-all, going-several, going_on, g
 use Rattle.fundings.proofs.ledger.found_through.Statement.{statement}
 use Rattle.fundings.proofs.ledger.found_through.Tie as tie
 
-pub found-through-spec : {M : Type 1} → statement M
-found-through-spec =
+pub found_through_spec : {M : Type 1} → statement M
+found_through_spec =
     tie.close
     (tie.spec
     (λ file map fundings found₀ i₀ found i. Going file map fundings i found)  -- Inv-loop

@@ -4,8 +4,8 @@ use borrow.Author.Rules.{rules}
 use Rattle.fundings.proofs.ledger.found_with.Statement.{statement}
 use Rattle.fundings.proofs.ledger.found_with.Tie as tie
 
-pub found-with-spec : {M : Type 1} → statement M
-found-with-spec =
+pub found_with_spec : {M : Type 1} → statement M
+found_with_spec =
     tie.close
     (tie.spec
     (λ c κs. search rules)  -- skip-requires

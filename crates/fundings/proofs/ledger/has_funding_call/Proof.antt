@@ -11,8 +11,8 @@ use Rattle.fundings.proofs.Filling.{call-first, call-found, call-on}
 use Rattle.fundings.proofs.ledger.has_funding_call.Statement.{statement}
 use Rattle.fundings.proofs.ledger.has_funding_call.Tie as tie
 
-pub has-funding-call-spec : {M : Type 1} → statement M
-has-funding-call-spec =
+pub has_funding_call_spec : {M : Type 1} → statement M
+has_funding_call_spec =
     tie.close
     (tie.spec
     (λ file entry calls i₀ i. Seeking (fundingCallAt file (front entry)) calls (length calls) i (any (fundingCallAt file (front entry)) calls))  -- Inv-loop

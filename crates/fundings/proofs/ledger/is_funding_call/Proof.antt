@@ -4,8 +4,8 @@ use borrow.Author.Rules.{rules}
 use Rattle.fundings.proofs.ledger.is_funding_call.Statement.{statement}
 use Rattle.fundings.proofs.ledger.is_funding_call.Tie as tie
 
-pub is-funding-call-spec : {M : Type 1} → statement M
-is-funding-call-spec =
+pub is_funding_call_spec : {M : Type 1} → statement M
+is_funding_call_spec =
     tie.close
     (tie.spec
     (λ c κs. search rules)  -- is-credit-requires

@@ -4,8 +4,8 @@ use borrow.Author.Rules.{rules}
 use Rattle.fundings.proofs.ledger.list_call.Statement.{statement}
 use Rattle.fundings.proofs.ledger.list_call.Tie as tie
 
-pub list-call-spec : {M : Type 1} → statement M
-list-call-spec =
+pub list_call_spec : {M : Type 1} → statement M
+list_call_spec =
     tie.close
     (tie.spec
     (λ c κs. search rules)  -- skip-requires

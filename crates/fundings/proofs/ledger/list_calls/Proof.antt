@@ -8,8 +8,8 @@ use Rattle.fundings.proofs.Filling.{Filling, filling-all, filling-room, filling-
 use Rattle.fundings.proofs.ledger.list_calls.Statement.{statement}
 use Rattle.fundings.proofs.ledger.list_calls.Tie as tie
 
-pub list-calls-spec : {M : Type 1} → statement M
-list-calls-spec =
+pub list_calls_spec : {M : Type 1} → statement M
+list_calls_spec =
     tie.close
     (tie.spec
     (λ file entry calls number table₀ n i₀ m₀ table i m. Filling file (front entry) calls number table₀ n table i m)  -- Inv-loop

@@ -4,8 +4,8 @@ use borrow.Author.Rules.{rules}
 use Rattle.fundings.proofs.ledger.list_calls_of.Statement.{statement}
 use Rattle.fundings.proofs.ledger.list_calls_of.Tie as tie
 
-pub list-calls-of-spec : {M : Type 1} → statement M
-list-calls-of-spec =
+pub list_calls_of_spec : {M : Type 1} → statement M
+list_calls_of_spec =
     tie.close
     (tie.spec
     (λ c κs. search rules)  -- skip-requires

@@ -5,8 +5,8 @@ use Rattle.fundings.proofs.Filling.{no-fundings, room-made, calls-room, calls_co
 use Rattle.fundings.proofs.ledger.list_entry.Statement.{statement}
 use Rattle.fundings.proofs.ledger.list_entry.Tie as tie
 
-pub list-entry-spec : {M : Type 1} → statement M
-list-entry-spec =
+pub list_entry_spec : {M : Type 1} → statement M
+list_entry_spec =
     tie.close
     (tie.spec
     (λ c κs. search rules)  -- skip-requires

@@ -8,8 +8,8 @@ use Rattle.fundings.proofs.Entering.{Entering, entering-first, entering-here, en
 use Rattle.fundings.proofs.ledger.list_fundings.Statement.{statement}
 use Rattle.fundings.proofs.ledger.list_fundings.Tie as tie
 
-pub list-fundings-spec : {M : Type 1} → statement M
-list-fundings-spec =
+pub list_fundings_spec : {M : Type 1} → statement M
+list_fundings_spec =
     tie.close
     (tie.spec
     (λ file table₀ t₀ m₀ table t m. Entering file table₀ table t m)  -- Inv-loop

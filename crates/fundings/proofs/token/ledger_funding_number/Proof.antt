@@ -10,8 +10,8 @@ use Rattle.fundings.proofs.Funders.{Ledger, foundWithin, ledger-all, ledger-toke
 use Rattle.fundings.proofs.token.ledger_funding_number.Statement.{statement}
 use Rattle.fundings.proofs.token.ledger_funding_number.Tie as tie
 
-pub ledger-funding-number-spec : {M : Type 1} → statement M
-ledger-funding-number-spec =
+pub ledger_funding_number_spec : {M : Type 1} → statement M
+ledger_funding_number_spec =
     tie.close
     (tie.spec
     (λ file map found₀ t place table count i₀ found i. Joining (markNumber t place) file table count (foundWithin file place found₀) i found)  -- Inv-loop

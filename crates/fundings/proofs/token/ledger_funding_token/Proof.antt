@@ -4,8 +4,8 @@ use Rattle.fundings.proofs.Shown.{funding-read, funding-there}
 use Rattle.fundings.proofs.token.ledger_funding_token.Statement.{statement}
 use Rattle.fundings.proofs.token.ledger_funding_token.Tie as tie
 
-pub ledger-funding-token-spec : {M : Type 1} → statement M
-ledger-funding-token-spec =
+pub ledger_funding_token_spec : {M : Type 1} → statement M
+ledger_funding_token_spec =
     tie.close (tie.spec
     (λ c κs. search rules)  -- ledger-funding-number-requires
     (λ c κs. search rules)  -- token-of-requires

@@ -8,8 +8,8 @@ use Rattle.grammar.proofs.Left.{fewer, stays, moves, refused, passed, refused_en
 use Rattle.grammar.proofs.Slots.advance.Statement.{statement}
 use Rattle.grammar.proofs.Slots.advance.Tie as tie
 
-pub advance-spec : {M : Type 1} → statement M
-advance-spec =
+pub advance_spec : {M : Type 1} → statement M
+advance_spec =
     tie.close
     (tie.spec
     (λ tag left₀ left. advance (slotList left) tag ≡ advance (slotList left₀) tag)  -- Inv-loop

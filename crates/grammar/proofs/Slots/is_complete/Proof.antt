@@ -8,8 +8,8 @@ use Rattle.grammar.proofs.Left.{fewer, incomplete, complete-on, complete-end}
 use Rattle.grammar.proofs.Slots.is_complete.Statement.{statement}
 use Rattle.grammar.proofs.Slots.is_complete.Tie as tie
 
-pub is-complete-spec : {M : Type 1} → statement M
-is-complete-spec =
+pub is_complete_spec : {M : Type 1} → statement M
+is_complete_spec =
     tie.close
     (tie.spec
     (λ left₀ left. complete (slotList left) ≡ complete (slotList left₀))  -- Inv-loop

@@ -4,8 +4,8 @@ use Rattle.guards.proofs.Asking.{asks_read}
 use Rattle.guards.proofs.contained.asks_inflow.Statement.{statement}
 use Rattle.guards.proofs.contained.asks_inflow.Tie as tie
 
-pub asks-inflow-spec : {M : Type 1} → statement M
-asks-inflow-spec =
+pub asks_inflow_spec : {M : Type 1} → statement M
+asks_inflow_spec =
     tie.close
     (tie.spec
     (λ c κs. search rules)  -- skip-requires

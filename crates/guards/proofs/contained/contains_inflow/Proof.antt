@@ -4,8 +4,8 @@ use Rattle.guards.proofs.Members.{nameless, members-room, members-count, members
 use Rattle.guards.proofs.contained.contains_inflow.Statement.{statement}
 use Rattle.guards.proofs.contained.contains_inflow.Tie as tie
 
-pub contains-inflow-spec : {M : Type 1} → statement M
-contains-inflow-spec =
+pub contains_inflow_spec : {M : Type 1} → statement M
+contains_inflow_spec =
     tie.close
     (tie.spec
     (λ c. search rules)  -- slice-aggregate-has-asset-parameter

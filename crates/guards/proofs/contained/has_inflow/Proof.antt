@@ -12,8 +12,8 @@ use Rattle.guards.proofs.Members.{members-any}
 use Rattle.guards.proofs.contained.has_inflow.Statement.{statement}
 use Rattle.guards.proofs.contained.has_inflow.Tie as tie
 
-pub has-inflow-spec : {M : Type 1} → statement M
-has-inflow-spec =
+pub has_inflow_spec : {M : Type 1} → statement M
+has_inflow_spec =
     tie.close
     (tie.spec
     (λ entry amount members i₀ i. Seeking (field_at (isInflow (front entry)) amount) members (length members) i (memberInflow (front entry) (front amount)))  -- Inv-loop

@@ -7,8 +7,8 @@ use Rattle.guards.proofs.Asking.{Asking, asking-none, asking-on, asking-done, as
 use Rattle.guards.proofs.contained.list_asking.Statement.{statement}
 use Rattle.guards.proofs.contained.list_asking.Tie as tie
 
-pub list-asking-spec : {M : Type 1} → statement M
-list-asking-spec =
+pub list_asking_spec : {M : Type 1} → statement M
+list_asking_spec =
     tie.close
     (tie.spec
     (λ file place asked table₀ scratch₀ i₀ n₀ table scratch i n. Asking file place asked table₀ table scratch₀ scratch i n)  -- Inv-loop

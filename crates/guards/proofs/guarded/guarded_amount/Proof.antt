@@ -27,8 +27,8 @@ module _ (s : Field) (g : List ℕ) (d : front g ≡ peel s) (t : ℕ) (e : t �
     unfolding guardedAmount
     no-comparison l = front-none [] refl ∙ rw (← d, ← e, ← u, h, ← v, l)
 
-pub guarded-amount-spec : {M : Type 1} → statement M
-guarded-amount-spec =
+pub guarded_amount_spec : {M : Type 1} → statement M
+guarded_amount_spec =
     tie.close
     (tie.spec
     (λ c κs. search rules)  -- peel-requires

@@ -26,8 +26,8 @@ module _ (s : Field) (g : List ℕ) (d : front g ≡ peel s) (t : ℕ) (e : t �
     unfolding guardedField
     no-comparison l = rw (← d, ← e, ← u, h, ← v, l)
 
-pub guarded-field-spec : {M : Type 1} → statement M
-guarded-field-spec =
+pub guarded_field_spec : {M : Type 1} → statement M
+guarded_field_spec =
     tie.close
     (tie.spec
     (λ c κs. search rules)  -- peel-requires

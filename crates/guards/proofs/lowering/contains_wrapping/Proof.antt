@@ -21,8 +21,8 @@ counted s table last n l =
     let e : n ≡ length (places_of 0x3D (walk 0 (front s))) = omega (arith, l.count) in
     rw e (places-any 0x3D (walk 0 (front s)))
 
-pub contains-wrapping-spec : {M : Type 1} → statement M
-contains-wrapping-spec =
+pub contains_wrapping_spec : {M : Type 1} → statement M
+contains_wrapping_spec =
     tie.close
     (tie.spec
     (λ c. search rules)  -- slice-aggregate-list-expression

@@ -12,8 +12,8 @@ use Rattle.guards.specs.Lowerings.{mayLower}
 use Rattle.guards.proofs.lowering.is_lowered.Statement.{statement}
 use Rattle.guards.proofs.lowering.is_lowered.Tie as tie
 
-pub is-lowered-spec : {M : Type 1} → statement M
-is-lowered-spec =
+pub is_lowered_spec : {M : Type 1} → statement M
+is_lowered_spec =
     tie.close
     (tie.spec
     (λ entry lowerings amount name i₀ i. Seeking (field_at (mayLower (front amount) name) entry) lowerings (length lowerings) i (any (mayLower (front amount) name) (fields_at entry lowerings)))  -- Inv-loop

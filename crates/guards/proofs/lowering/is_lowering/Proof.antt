@@ -30,8 +30,8 @@ module _ (amounts : List Field) (s : Field) (t : ℕ) (d : t ≡ tag s) (b : Boo
     unfolding isLowering
     by-wrapping k z l w m = rw (← d, ← e, not-false b h, ← f, ← g, ← i, ← j, not-false a k, ← l, ← m)
 
-pub is-lowering-spec : {M : Type 1} → statement M
-is-lowering-spec =
+pub is_lowering_spec : {M : Type 1} → statement M
+is_lowering_spec =
     tie.close
     (tie.spec
     (λ c κs. search rules)  -- tag-of-requires

@@ -28,8 +28,8 @@ module _ (amounts : List Field) (s t : List ℕ) where
   unfolding loweringPlaces
   all_listed x f last u at m i w = rw (← f) (listing-done lowering-row amounts x 3 t 0 last u at m i w)
 
-pub list-lowerings-spec : {M : Type 1} → statement M
-list-lowerings-spec =
+pub list_lowerings_spec : {M : Type 1} → statement M
+list_lowerings_spec =
     tie.close
     (tie.spec
     (λ file asked entry table₀ t₀ at₀ n₀ table t at n. Listing manyOf (askedAmounts file asked) t₀ 3 table₀ 0 table t at n)  -- Inv-loop

@@ -27,8 +27,8 @@ module _ (r : List ℕ) (s : Field) (t : ℕ) (d : t ≡ tag s) where
     unfolding loweredBy
     not-lowered k = front-none [] refl ∙ rw (← d, ne_eqb t 0x15 h, ← e, k)
 
-pub lowered-by-spec : {M : Type 1} → statement M
-lowered-by-spec =
+pub lowered_by_spec : {M : Type 1} → statement M
+lowered_by_spec =
     tie.close
     (tie.spec
     (λ c κs. search rules)  -- tag-of-requires

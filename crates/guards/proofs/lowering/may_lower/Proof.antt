@@ -22,8 +22,8 @@ module _ (amount : Field) (r : List ℕ) (s : Field) (a : Bool) (e : a ≡ assig
   unfolding mayLower
   by-amount h x f b g = g ∙ rw (← e, not-false a h, ← f)
 
-pub may-lower-spec : {M : Type 1} → statement M
-may-lower-spec =
+pub may_lower_spec : {M : Type 1} → statement M
+may_lower_spec =
     tie.close
     (tie.spec
     (λ c κs. search rules)  -- assigns-requires

@@ -4,8 +4,8 @@ use Rattle.guards.proofs.Paid.{paid-read, paid-within}
 use Rattle.guards.proofs.payout.amount_paid.Statement.{statement}
 use Rattle.guards.proofs.payout.amount_paid.Tie as tie
 
-pub amount-paid-spec : {M : Type 1} → statement M
-amount-paid-spec =
+pub amount_paid_spec : {M : Type 1} → statement M
+amount_paid_spec =
     tie.close (tie.spec
     (λ c κs. search rules)  -- skip-requires
     (λ c κs. search rules)  -- payout-amount-requires

@@ -4,8 +4,8 @@ use Rattle.guards.proofs.Paid.{asked-read}
 use Rattle.guards.proofs.payout.asked_amount.Statement.{statement}
 use Rattle.guards.proofs.payout.asked_amount.Tie as tie
 
-pub asked-amount-spec : {M : Type 1} → statement M
-asked-amount-spec =
+pub asked_amount_spec : {M : Type 1} → statement M
+asked_amount_spec =
     tie.close (tie.spec
     (λ c κs. search rules)  -- number-at-requires
     (λ c κs. search rules)  -- amount-paid-requires

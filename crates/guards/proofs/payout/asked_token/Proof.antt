@@ -15,8 +15,8 @@ token-read : (file asked : List ℕ) (k n : ℕ) → n ≡ get_or asked k 0 → 
 unfolding askedToken
 token-read file asked k n e s f x g = rw (← e, ← f) g
 
-pub asked-token-spec : {M : Type 1} → statement M
-asked-token-spec =
+pub asked_token_spec : {M : Type 1} → statement M
+asked_token_spec =
     tie.close
     (tie.spec
     (λ c κs. search rules)  -- number-at-requires

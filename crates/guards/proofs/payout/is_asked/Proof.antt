@@ -36,8 +36,8 @@ module _ (file asked : List ℕ) (amount : Field) where
     one_more : b ≡ false → Seeking (asks file amount) asked (length asked) (i + 1) r
     one_more k = seeking-on (asks file amount) asked (length asked) i r v h (here ∙ k)
 
-pub is-asked-spec : {M : Type 1} → statement M
-is-asked-spec =
+pub is_asked_spec : {M : Type 1} → statement M
+is_asked_spec =
     tie.close
     (tie.spec
     (λ file asked amount i₀ i. Seeking (asks file (front amount)) asked (length asked) i (any (exprEq (front amount)) (askedAmounts file asked)))  -- Inv-loop

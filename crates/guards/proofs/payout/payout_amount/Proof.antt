@@ -4,8 +4,8 @@ use Rattle.guards.proofs.Paid.{split-amount, whole-amount, split-within, whole-w
 use Rattle.guards.proofs.payout.payout_amount.Statement.{statement}
 use Rattle.guards.proofs.payout.payout_amount.Tie as tie
 
-pub payout-amount-spec : {M : Type 1} → statement M
-payout-amount-spec =
+pub payout_amount_spec : {M : Type 1} → statement M
+payout_amount_spec =
     tie.close
     (tie.spec
     (λ c κs. search rules)  -- part-of-requires

@@ -13,8 +13,8 @@ token-read : (s x y z : List ℕ) → front x ≡ part 1 (front s) → front y �
 unfolding payoutToken
 token-read s x y z e f g = rw (← e, ← f) g
 
-pub payout-token-spec : {M : Type 1} → statement M
-payout-token-spec =
+pub payout_token_spec : {M : Type 1} → statement M
+payout_token_spec =
     tie.close (tie.spec
     (λ c κs. search rules)  -- part-of-requires
     (λ c κs. search rules)  -- peel-requires

@@ -5,8 +5,8 @@ use Rattle.listing.proofs.Reading.{Reading, reading-none, reading-on, reading-al
 use Rattle.listing.proofs.lines.all_lines.Statement.{statement}
 use Rattle.listing.proofs.lines.all_lines.Tie as tie
 
-pub all-lines-spec : {M : Type 1} → statement M
-all-lines-spec =
+pub all_lines_spec : {M : Type 1} → statement M
+all_lines_spec =
     tie.close
     (tie.spec
     (λ records count buffer₀ rest₀ n₀ at₀ buffer rest n at. Reading count records buffer₀ buffer rest n at)  -- Inv-loop

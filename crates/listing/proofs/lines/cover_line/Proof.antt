@@ -4,8 +4,8 @@ use Rattle.listing.proofs.Covers.{cover-lined}
 use Rattle.listing.proofs.lines.cover_line.Statement.{statement}
 use Rattle.listing.proofs.lines.cover_line.Tie as tie
 
-pub cover-line-spec : {M : Type 1} → statement M
-cover-line-spec =
+pub cover_line_spec : {M : Type 1} → statement M
+cover_line_spec =
     tie.close
     (tie.spec
     (λ c. search rules)  -- mul-byte-at

@@ -5,8 +5,8 @@ use Rattle.listing.proofs.Covers.{Listed, listed-none, listed-on, listed-all}
 use Rattle.listing.proofs.lines.cover_lines.Statement.{statement}
 use Rattle.listing.proofs.lines.cover_lines.Tie as tie
 
-pub cover-lines-spec : {M : Type 1} → statement M
-cover-lines-spec =
+pub cover_lines_spec : {M : Type 1} → statement M
+cover_lines_spec =
     tie.close
     (tie.spec
     (λ covers count buffer₀ at k₀ m₀ buffer k m. Listed covers count buffer₀ at buffer k m)  -- Inv-loop

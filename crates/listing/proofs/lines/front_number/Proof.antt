@@ -4,9 +4,9 @@ use Rattle.listing.specs.Coded.{frontNumber}
 use Rattle.listing.proofs.lines.front_number.Statement.{statement}
 use Rattle.listing.proofs.lines.front_number.Tie as tie
 
-pub front-number-spec : {M : Type 1} → statement M
+pub front_number_spec : {M : Type 1} → statement M
 unfolding frontNumber
-front-number-spec =
+front_number_spec =
     tie.close
     (tie.spec
     (λ c κs. search rules)  -- byte-at-requires

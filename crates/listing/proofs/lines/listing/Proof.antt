@@ -4,8 +4,8 @@ use Rattle.listing.proofs.Back.{listing-short}
 use Rattle.listing.proofs.lines.listing.Statement.{statement}
 use Rattle.listing.proofs.lines.listing.Tie as tie
 
-pub listing-spec : {M : Type 1} → statement M
-listing-spec =
+pub listing_spec : {M : Type 1} → statement M
+listing_spec =
     tie.close
     (tie.spec
     (λ c κs. search rules)  -- long-listing-requires

@@ -4,8 +4,8 @@ use Rattle.listing.proofs.Back.{listing-long}
 use Rattle.listing.proofs.lines.long_listing.Statement.{statement}
 use Rattle.listing.proofs.lines.long_listing.Tie as tie
 
-pub long-listing-spec : {M : Type 1} → statement M
-long-listing-spec =
+pub long_listing_spec : {M : Type 1} → statement M
+long_listing_spec =
     tie.close
     (tie.spec
     (λ c. search rules)  -- slice-aggregate-each-record

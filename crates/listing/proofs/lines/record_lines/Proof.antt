@@ -4,8 +4,8 @@ use Rattle.listing.proofs.Reading.{lines-refused, lines-rejected, lines-accepted
 use Rattle.listing.proofs.lines.record_lines.Statement.{statement}
 use Rattle.listing.proofs.lines.record_lines.Tie as tie
 
-pub record-lines-spec : {M : Type 1} → statement M
-record-lines-spec =
+pub record_lines_spec : {M : Type 1} → statement M
+record_lines_spec =
     tie.close
     (tie.spec
     (λ c κs. search rules)  -- byte-at-requires

@@ -4,8 +4,8 @@ use Rattle.listing.proofs.Reading.{size-alone, size-covers}
 use Rattle.listing.proofs.lines.size_of.Statement.{statement}
 use Rattle.listing.proofs.lines.size_of.Tie as tie
 
-pub size-of-spec : {M : Type 1} → statement M
-size-of-spec =
+pub size_of_spec : {M : Type 1} → statement M
+size_of_spec =
     tie.close
     (tie.spec
     (λ c κs. search rules)  -- byte-at-requires

@@ -8,8 +8,8 @@ use Rattle.output.proofs.write_byte.Reads as write-byte-reads
 use Rattle.listing.proofs.text.+write_number.{statement}
 use Rattle.listing.proofs.text.+write_number.Tie.{close}
 
-pub +write-number-spec : {M : Type 1} → statement M
-+write-number-spec =
+pub +write_number_spec : {M : Type 1} → statement M
++write_number_spec =
     close
     (λ κs a. a.0)  -- μ-write-number
     λ t. write-number-lts.spec

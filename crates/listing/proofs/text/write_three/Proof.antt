@@ -4,8 +4,8 @@ use Rattle.listing.proofs.Pieces.{three-written}
 use Rattle.listing.proofs.text.write_three.Statement.{statement}
 use Rattle.listing.proofs.text.write_three.Tie as tie
 
-pub write-three-spec : {M : Type 1} → statement M
-write-three-spec =
+pub write_three_spec : {M : Type 1} → statement M
+write_three_spec =
     tie.close
     (tie.spec
     (λ c κs. search rules)  -- write-both-requires

@@ -4,8 +4,8 @@ use Rattle.listing.proofs.Pieces.{two-written}
 use Rattle.listing.proofs.text.write_two.Statement.{statement}
 use Rattle.listing.proofs.text.write_two.Tie as tie
 
-pub write-two-spec : {M : Type 1} → statement M
-write-two-spec =
+pub write_two_spec : {M : Type 1} → statement M
+write_two_spec =
     tie.close
     (tie.spec
     (λ c κs. search rules)  -- write-both-requires

@@ -4,8 +4,8 @@ use Rattle.matching.proofs.Answering.{marks-covered, marks-rejected}
 use Rattle.matching.proofs.answer.after_answer.Statement.{statement}
 use Rattle.matching.proofs.answer.after_answer.Tie as tie
 
-pub after-answer-spec : {M : Type 1} → statement M
-after-answer-spec =
+pub after_answer_spec : {M : Type 1} → statement M
+after_answer_spec =
     tie.close (tie.spec
     (λ c. search rules)  -- enum-known-answer
     (λ c κs. search rules)  -- after-cover-requires

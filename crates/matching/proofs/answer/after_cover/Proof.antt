@@ -4,8 +4,8 @@ use Rattle.matching.proofs.Covering.{after-equal-debit, after-equal-parameter, a
 use Rattle.matching.proofs.answer.after_cover.Statement.{statement}
 use Rattle.matching.proofs.answer.after_cover.Tie as tie
 
-pub after-cover-spec : {M : Type 1} → statement M
-after-cover-spec =
+pub after_cover_spec : {M : Type 1} → statement M
+after_cover_spec =
     tie.close
     (tie.spec
     (λ c. search rules)  -- enum-known-cover

@@ -4,8 +4,8 @@ use Rattle.matching.proofs.Whole.{answers-all, uses-few}
 use Rattle.matching.proofs.answer.answer_payout.Statement.{statement}
 use Rattle.matching.proofs.answer.answer_payout.Tie as tie
 
-pub answer-payout-spec : {M : Type 1} → statement M
-answer-payout-spec =
+pub answer_payout_spec : {M : Type 1} → statement M
+answer_payout_spec =
     tie.close
     (tie.spec
     (λ c κs. search rules)  -- cover-payout-requires

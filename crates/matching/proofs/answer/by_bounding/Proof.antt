@@ -4,8 +4,8 @@ use Rattle.matching.proofs.Answering.{bounding-none, bounding-conflict, bounding
 use Rattle.matching.proofs.answer.by_bounding.Statement.{statement}
 use Rattle.matching.proofs.answer.by_bounding.Tie as tie
 
-pub by-bounding-spec : {M : Type 1} → statement M
-by-bounding-spec =
+pub by_bounding_spec : {M : Type 1} → statement M
+by_bounding_spec =
     tie.close
     (tie.spec
     (λ c κs. search rules)  -- nth-payout-requires

@@ -4,8 +4,8 @@ use Rattle.matching.proofs.Answering.{equal-none, equal-conflict, equal-covers}
 use Rattle.matching.proofs.answer.by_equal.Statement.{statement}
 use Rattle.matching.proofs.answer.by_equal.Tie as tie
 
-pub by-equal-spec : {M : Type 1} → statement M
-by-equal-spec =
+pub by_equal_spec : {M : Type 1} → statement M
+by_equal_spec =
     tie.close
     (tie.spec
     (λ c κs. search rules)  -- nth-payout-requires

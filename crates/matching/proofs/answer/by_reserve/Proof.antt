@@ -4,8 +4,8 @@ use Rattle.matching.proofs.Answering.{reserve-none, reserve-covers}
 use Rattle.matching.proofs.answer.by_reserve.Statement.{statement}
 use Rattle.matching.proofs.answer.by_reserve.Tie as tie
 
-pub by-reserve-spec : {M : Type 1} → statement M
-by-reserve-spec =
+pub by_reserve_spec : {M : Type 1} → statement M
+by_reserve_spec =
     tie.close
     (tie.spec
     (λ c κs. search rules)  -- reserve-bounding-payout-requires

@@ -4,8 +4,8 @@ use Rattle.matching.proofs.Answering.{reserve-used, reserve-unused}
 use Rattle.matching.proofs.answer.by_reserve_at.Statement.{statement}
 use Rattle.matching.proofs.answer.by_reserve_at.Tie as tie
 
-pub by-reserve-at-spec : {M : Type 1} → statement M
-by-reserve-at-spec =
+pub by_reserve_at_spec : {M : Type 1} → statement M
+by_reserve_at_spec =
     tie.close (tie.spec
     (λ c κs. search rules)  -- is-used-requires
     (λ c. search reserve-used)  -- returns

@@ -4,8 +4,8 @@ use Rattle.matching.proofs.Answering.{answer-split, answer-equal}
 use Rattle.matching.proofs.answer.cover_payout.Statement.{statement}
 use Rattle.matching.proofs.answer.cover_payout.Tie as tie
 
-pub cover-payout-spec : {M : Type 1} → statement M
-cover-payout-spec =
+pub cover_payout_spec : {M : Type 1} → statement M
+cover_payout_spec =
     tie.close
     (tie.spec
     (λ c κs. search rules)  -- nth-payout-requires

@@ -4,8 +4,8 @@ use Rattle.matching.proofs.Answering.{taken-rejects, taken_none}
 use Rattle.matching.proofs.answer.not_taken.Statement.{statement}
 use Rattle.matching.proofs.answer.not_taken.Tie as tie
 
-pub not-taken-spec : {M : Type 1} → statement M
-not-taken-spec =
+pub not_taken_spec : {M : Type 1} → statement M
+not_taken_spec =
     tie.close
     (tie.spec
     (λ c κs. search rules)  -- nth-payout-requires

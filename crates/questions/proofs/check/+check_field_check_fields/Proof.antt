@@ -21,8 +21,8 @@ use Rattle.grammar.proofs.slots_of.Reads as slots-of-reads
 use Rattle.questions.proofs.check.+check_field_check_fields.{statement}
 use Rattle.questions.proofs.check.+check_field_check_fields.Tie.{close}
 
-pub +check-field-check-fields-spec : {M : Type 1} → statement M
-+check-field-check-fields-spec =
+pub +check_field_check_fields_spec : {M : Type 1} → statement M
++check_field_check_fields_spec =
     close
     (λ κs a. 2 * length a.1.0.now + 1)  -- μ-check-field
     (λ κs a. 2 * length a.1.0.now)  -- μ-check-fields

@@ -23,8 +23,8 @@ module _ (file : List ℕ) where
   unfolding askForm
   by-fields h r e = rw (le-leb (length file) 32768 h) e
 
-pub check-form-spec : {M : Type 1} → statement M
-check-form-spec =
+pub check_form_spec : {M : Type 1} → statement M
+check_form_spec =
     tie.close
     (tie.spec
     (λ c. search too_long)  -- returns

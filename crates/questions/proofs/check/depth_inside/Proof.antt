@@ -17,8 +17,8 @@ deeper t depth e = rw (e, add-one)
 first : (t depth : ℕ) → isExpression t ≡ false → 1 ≡ depthInside t depth
 first t depth e = rw e
 
-pub depth-inside-spec : {M : Type 1} → statement M
-depth-inside-spec =
+pub depth_inside_spec : {M : Type 1} → statement M
+depth_inside_spec =
     tie.close
     (tie.spec
     (λ c κs. search rules)  -- is-expression-requires

@@ -35,8 +35,8 @@ module _ (t : ℕ) (x : List ℕ) where
     unfolding contentAllowed
     some-text n r q = q ∙ rw (e, is_known x n) (sym (and-true (all (between 0x20 0x7E) x)))
 
-pub content-allowed-spec : {M : Type 1} → statement M
-content-allowed-spec =
+pub content_allowed_spec : {M : Type 1} → statement M
+content_allowed_spec =
     tie.close
     (tie.spec
     (λ c κs. search rules)  -- is-text-requires

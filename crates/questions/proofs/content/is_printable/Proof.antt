@@ -16,8 +16,8 @@ all_left l = testing-none (between 0x20 0x7E) l _ refl
 as_read : (l : List ℕ) (i x : ℕ) → x ≡ get_or l i 0 → between 0x20 0x7E x ≡ between 0x20 0x7E (get_or l i 0)
 as_read l i x e = rw e
 
-pub is-printable-spec : {M : Type 1} → statement M
-is-printable-spec =
+pub is_printable_spec : {M : Type 1} → statement M
+is_printable_spec =
     tie.close
     (tie.spec
     (λ text i₀ i. Testing (between 0x20 0x7E) text i (all (between 0x20 0x7E) text))  -- Inv-loop

@@ -43,8 +43,8 @@ module _ (file e : List ℕ) (h : e ≡ fromNth Entry Entry 64 file) where
       let w : whole e ≡ true = rw h (nth-whole Entry Entry 64 file (rw h at n)) in
       one_more (placedFrom Entry Entry 0 (fields file)) _ _ (rw (w, zero-add (length file - length e)) at behind)
 
-pub check-entries-spec : {M : Type 1} → statement M
-check-entries-spec =
+pub check_entries_spec : {M : Type 1} → statement M
+check_entries_spec =
     tie.close
     (tie.spec
     (λ c κs. search rules)  -- nth-from-requires

@@ -26,8 +26,8 @@ module _ (file : List ℕ) (a : Answer) (e : asked a ≡ askForm file) where
     unfolding askFile
     entries-last k r g = rw (← e, h, ← f, k) g
 
-pub check-file-spec : {M : Type 1} → statement M
-check-file-spec =
+pub check_file_spec : {M : Type 1} → statement M
+check_file_spec =
     tie.close
     (tie.spec
     (λ c κs. search rules)  -- check-form-requires

@@ -7,8 +7,8 @@ use Rattle.questions.proofs.Naming.{Naming, naming-all, naming-done, naming-in-r
 use Rattle.questions.proofs.names.check_names_in.Statement.{statement}
 use Rattle.questions.proofs.names.check_names_in.Tie as tie
 
-pub check-names-in-spec : {M : Type 1} → statement M
-check-names-in-spec =
+pub check_names_in_spec : {M : Type 1} → statement M
+check_names_in_spec =
     tie.close
     (tie.spec
     (λ file table₀ t₀ at₀ table t at. Naming file table₀ table t at)  -- Inv-loop

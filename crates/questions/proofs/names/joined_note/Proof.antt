@@ -16,8 +16,8 @@ module _ (held note : ℕ) where
   unfolding joinedNote
   differing h = rw h
 
-pub joined-note-spec : {M : Type 1} → statement M
-joined-note-spec =
+pub joined_note_spec : {M : Type 1} → statement M
+joined_note_spec =
     tie.close (tie.spec
     (λ c. search alone)  -- returns
     (λ c. search differing))  -- returns-2

@@ -27,8 +27,8 @@ module _ (name : List ℕ) (number i : ℕ) (v : Numbering name number i) where
   unfolding numberFrom
   all h = rw (drop_of_length-le name h) at v.left
 
-pub name-number-spec : {M : Type 1} → statement M
-name-number-spec =
+pub name_number_spec : {M : Type 1} → statement M
+name_number_spec =
     tie.close
     (tie.spec
     (λ name number₀ i₀ number i. Numbering name number i)  -- Inv-loop

@@ -4,8 +4,8 @@ use Rattle.questions.proofs.Noting.{no-room-shows, no-room-kept, has-place, plac
 use Rattle.questions.proofs.names.note_number.Statement.{statement}
 use Rattle.questions.proofs.names.note_number.Tie as tie
 
-pub note-number-spec : {M : Type 1} → statement M
-note-number-spec =
+pub note_number_spec : {M : Type 1} → statement M
+note_number_spec =
     tie.close
     (tie.spec
     (λ c. search (no-room-shows, no-room-kept))  -- returns

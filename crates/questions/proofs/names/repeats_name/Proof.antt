@@ -27,8 +27,8 @@ module _ (before s : List ℕ) (t : ℕ) (e : t ≡ tag_of s) where
         false ≡ repeats before s
     new table i n g b q z = state false (sym (not-shown (stateNames (fields before)) table i m (rw g at (sym q ∙ not-true b z))))
 
-pub repeats-name-spec : {M : Type 1} → statement M
-repeats-name-spec =
+pub repeats_name_spec : {M : Type 1} → statement M
+repeats_name_spec =
     tie.close
     (tie.spec
     (λ c κs. search rules)  -- front-tag-requires

@@ -22,8 +22,8 @@ module _ (name : List ℕ) (s : Field) (t : ℕ) (d : t ≡ tag s) (a : Bool) (e
   unfolding assigns
   by-target h x y f g b k = k ∙ rw (← d, ← e, not-false a h, ← f, ← g)
 
-pub assigns-spec : {M : Type 1} → statement M
-assigns-spec =
+pub assigns_spec : {M : Type 1} → statement M
+assigns_spec =
     tie.close
     (tie.spec
     (λ c κs. search rules)  -- tag-of-requires

@@ -27,8 +27,8 @@ module _ (operator : ℕ) (name : List ℕ) (s : Field) (t : ℕ) (d : t ≡ tag
     unfolding setsFrom
     by-first-side n x y z h i j b k = k ∙ rw (← d, eq-eqb t 0x13 e, ← f, ← g, eq-eqb u operator n, ← h, ← i, ← j)
 
-pub sets-from-spec : {M : Type 1} → statement M
-sets-from-spec =
+pub sets_from_spec : {M : Type 1} → statement M
+sets_from_spec =
     tie.close
     (tie.spec
     (λ c κs. search rules)  -- tag-of-requires

@@ -13,8 +13,8 @@ value_read : (s x y : List ℕ) → front x ≡ part 1 (front s) → front y ≡
 unfolding value
 value_read s x y e f = rw (← e) f
 
-pub value-of-spec : {M : Type 1} → statement M
-value-of-spec =
+pub value_of_spec : {M : Type 1} → statement M
+value_of_spec =
     tie.close (tie.spec
     (λ c κs. search rules)  -- part-of-requires
     (λ c κs. search rules)  -- peel-requires

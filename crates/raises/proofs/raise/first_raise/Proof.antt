@@ -78,8 +78,8 @@ module _ (s name t : List ℕ) (i : Choosing Set AddTo (isRaise name) s t) where
   raise-here : whole t ≡ true → isRaise name (front t) ≡ true → found
   raise-here w a = among-all (choosing-here Set AddTo (isRaise name) s t i w a ∙ rw (raises-only name (fields (after t))))
 
-pub first-raise-spec : {M : Type 1} → statement M
-first-raise-spec =
+pub first_raise_spec : {M : Type 1} → statement M
+first_raise_spec =
     tie.close
     (tie.spec
     (λ s name t₀ t. Choosing Set AddTo (isRaise name) s t)  -- Inv-loop

@@ -12,8 +12,8 @@ use Rattle.raises.specs.Raising.{raising}
 use Rattle.raises.proofs.raise.first_raising.Statement.{statement}
 use Rattle.raises.proofs.raise.first_raising.Tie as tie
 
-pub first-raising-spec : {M : Type 1} → statement M
-first-raising-spec =
+pub first_raising_spec : {M : Type 1} → statement M
+first_raising_spec =
     tie.close
     (tie.spec
     (λ s name t₀ t. Choosing Entry Entry (raising name) s t × (t ≡ drop (length s - length t) s))  -- Inv-loop

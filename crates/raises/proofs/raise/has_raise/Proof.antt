@@ -31,8 +31,8 @@ found-one : (r : List ℕ) (s p x : List ℕ) → fields p ≡ parts (front s) �
 unfolding raising body
 found-one r s p x e f v g = g ∙ rw (← e) (some-pass (isRaise r) (fieldsFrom Guard ExpressionStatement (fields p)) (whole x) _ _ f)
 
-pub has-raise-spec : {M : Type 1} → statement M
-has-raise-spec =
+pub has_raise_spec : {M : Type 1} → statement M
+has_raise_spec =
     tie.close
     (tie.spec
     (λ c κs. search rules)  -- parts-of-requires

@@ -25,8 +25,8 @@ module _ (r : List ℕ) (s : Field) (t : ℕ) (f : t ≡ tag s) where
     unfolding isRaise
     by-set h b g = rw (← e, not-false a h, ← f, ne_eqb t 0x15 d, ← g)
 
-pub is-raise-spec : {M : Type 1} → statement M
-is-raise-spec =
+pub is_raise_spec : {M : Type 1} → statement M
+is_raise_spec =
     tie.close
     (tie.spec
     (λ c κs. search rules)  -- tag-of-requires

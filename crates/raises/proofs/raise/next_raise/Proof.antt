@@ -19,8 +19,8 @@ module _ (s y r name : List ℕ) (e : y ≡ after s) where
   shorter-behind : length r ≤ length y → length r ≤ length (after s)
   shorter-behind h = rw (← e) h
 
-pub next-raise-spec : {M : Type 1} → statement M
-next-raise-spec =
+pub next_raise_spec : {M : Type 1} → statement M
+next_raise_spec =
     tie.close
     (tie.spec
     (λ c κs. search rules)  -- after-front-requires

@@ -20,8 +20,8 @@ module _ (r : List ℕ) (s : Field) (v : List ℕ) (e : front v ≡ value s) (b 
   unfolding raisedBy
   by_value h = e ∙ rw (← f, h)
 
-pub raised-by-spec : {M : Type 1} → statement M
-raised-by-spec =
+pub raised_by_spec : {M : Type 1} → statement M
+raised_by_spec =
     tie.close
     (tie.spec
     (λ c κs. search rules)  -- value-of-requires

@@ -13,8 +13,8 @@ use Rattle.raises.proofs.Zeros.{defaults-all}
 use Rattle.raises.proofs.zero.default_is_zero.Statement.{statement}
 use Rattle.raises.proofs.zero.default_is_zero.Tie as tie
 
-pub default-is-zero-spec : {M : Type 1} → statement M
-default-is-zero-spec =
+pub default_is_zero_spec : {M : Type 1} → statement M
+default_is_zero_spec =
     tie.close
     (tie.spec
     (λ file name t₀ t. Passing State State (defaultPasses name) t (all is_zero (defaults (fields file) name)))  -- Inv-loop

@@ -28,8 +28,8 @@ module _ (r : List ℕ) (s : Field) (x : List ℕ) (e : x ≡ name_of s) (a : Bo
     unfolding defaultPasses
     by_default i v o = o ∙ rw (← e, ← f, not-false a h, ← g, ← k, not-false b i)
 
-pub default-passes-spec : {M : Type 1} → statement M
-default-passes-spec =
+pub default_passes_spec : {M : Type 1} → statement M
+default_passes_spec =
     tie.close
     (tie.spec
     (λ c κs. search rules)  -- name-of-requires

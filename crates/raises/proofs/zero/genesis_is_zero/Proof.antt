@@ -13,8 +13,8 @@ use Rattle.raises.proofs.Zeros.{genesis-all}
 use Rattle.raises.proofs.zero.genesis_is_zero.Statement.{statement}
 use Rattle.raises.proofs.zero.genesis_is_zero.Tie as tie
 
-pub genesis-is-zero-spec : {M : Type 1} → statement M
-genesis-is-zero-spec =
+pub genesis_is_zero_spec : {M : Type 1} → statement M
+genesis_is_zero_spec =
     tie.close
     (tie.spec
     (λ file name t₀ t. Passing Genesis Genesis (genesisPasses name) t (all is_zero (genesisValues (fields file) name)))  -- Inv-loop

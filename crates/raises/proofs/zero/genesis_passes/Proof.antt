@@ -20,8 +20,8 @@ module _ (r : List ℕ) (g : Field) (x : List ℕ) (e : front x ≡ part 0 g) (a
   unfolding genesisPasses
   by_value h y k b o = o ∙ rw (← e, ← f, not-false a h, k)
 
-pub genesis-passes-spec : {M : Type 1} → statement M
-genesis-passes-spec =
+pub genesis_passes_spec : {M : Type 1} → statement M
+genesis_passes_spec =
     tie.close
     (tie.spec
     (λ c κs. search rules)  -- part-of-requires

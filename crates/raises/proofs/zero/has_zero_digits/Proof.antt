@@ -14,8 +14,8 @@ all_left : (l : List ℕ) → Testing zeroDigit l 0 (zeroDigits l)
 unfolding zeroDigits
 all_left l = testing-none zeroDigit l _ refl
 
-pub has-zero-digits-spec : {M : Type 1} → statement M
-has-zero-digits-spec =
+pub has_zero_digits_spec : {M : Type 1} → statement M
+has_zero_digits_spec =
     tie.close
     (tie.spec
     (λ s i₀ i. Testing zeroDigit s i (zeroDigits s))  -- Inv-loop

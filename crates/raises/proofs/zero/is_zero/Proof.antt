@@ -21,8 +21,8 @@ module _ (f : Field) (x : List ℕ) (e : front x ≡ peel f) (t : ℕ) (g : t �
   unfolding is_zero zeroDigits zeroDigit
   by-text h y k b o = o ∙ rw (← e, ← g, eq-eqb t 0x30 h, k)
 
-pub is-zero-spec : {M : Type 1} → statement M
-is-zero-spec =
+pub is_zero_spec : {M : Type 1} → statement M
+is_zero_spec =
     tie.close
     (tie.spec
     (λ c κs. search rules)  -- peel-requires

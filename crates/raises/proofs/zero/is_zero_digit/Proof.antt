@@ -3,8 +3,8 @@ use Rattle.raises.specs.Raising.{zeroDigit}
 use Rattle.raises.proofs.zero.is_zero_digit.Statement.{statement}
 use Rattle.raises.proofs.zero.is_zero_digit.Tie as tie
 
-pub is-zero-digit-spec : {M : Type 1} → statement M
+pub is_zero_digit_spec : {M : Type 1} → statement M
 unfolding zeroDigit
-is-zero-digit-spec =
+is_zero_digit_spec =
     tie.close (tie.spec
     (λ c. cc))  -- returns

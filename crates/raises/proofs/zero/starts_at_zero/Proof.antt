@@ -20,8 +20,8 @@ module _ (model : Fields) (r : List ℕ) (a : Bool) (e : a ≡ all is_zero (defa
   unfolding startsAtZero
   by-genesis h b f = f ∙ rw (← e, not-false a h)
 
-pub starts-at-zero-spec : {M : Type 1} → statement M
-starts-at-zero-spec =
+pub starts_at_zero_spec : {M : Type 1} → statement M
+starts_at_zero_spec =
     tie.close
     (tie.spec
     (λ c κs. search rules)  -- default-is-zero-requires

@@ -10,8 +10,8 @@ use Rattle.reserve_tokens.proofs.Called.{Picking, picking-all, picking-none, pic
 use Rattle.reserve_tokens.proofs.calls.first_debit.Statement.{statement}
 use Rattle.reserve_tokens.proofs.calls.first_debit.Tie as tie
 
-pub first-debit-spec : {M : Type 1} → statement M
-first-debit-spec =
+pub first_debit_spec : {M : Type 1} → statement M
+first_debit_spec =
     tie.close
     (tie.spec
     (λ file amount calls i₀ i. Picking (withAmount isDebit (front amount)) file calls i)  -- Inv-loop

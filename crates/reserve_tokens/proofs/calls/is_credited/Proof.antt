@@ -13,8 +13,8 @@ use Rattle.fields.proofs.AtPlaces.{field_at, fields-any, field_found, field-on}
 use Rattle.reserve_tokens.proofs.calls.is_credited.Statement.{statement}
 use Rattle.reserve_tokens.proofs.calls.is_credited.Tie as tie
 
-pub is-credited-spec : {M : Type 1} → statement M
-is-credited-spec =
+pub is_credited_spec : {M : Type 1} → statement M
+is_credited_spec =
     tie.close
     (tie.spec
     (λ file amount calls i₀ i. Seeking (field_at (withAmount isCredit (front amount)) file) calls (length calls) i (any (withAmount isCredit (front amount)) (fields_at file calls)))  -- Inv-loop

@@ -4,8 +4,8 @@ use Rattle.reserve_tokens.proofs.Called.{other-amount, by_kind}
 use Rattle.reserve_tokens.proofs.calls.is_crediting.Statement.{statement}
 use Rattle.reserve_tokens.proofs.calls.is_crediting.Tie as tie
 
-pub is-crediting-spec : {M : Type 1} → statement M
-is-crediting-spec =
+pub is_crediting_spec : {M : Type 1} → statement M
+is_crediting_spec =
     tie.close
     (tie.spec
     (λ c κs. search rules)  -- part-of-requires

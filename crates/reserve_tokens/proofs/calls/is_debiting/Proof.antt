@@ -4,8 +4,8 @@ use Rattle.reserve_tokens.proofs.Called.{other-amount, by_kind}
 use Rattle.reserve_tokens.proofs.calls.is_debiting.Statement.{statement}
 use Rattle.reserve_tokens.proofs.calls.is_debiting.Tie as tie
 
-pub is-debiting-spec : {M : Type 1} → statement M
-is-debiting-spec =
+pub is_debiting_spec : {M : Type 1} → statement M
+is_debiting_spec =
     tie.close
     (tie.spec
     (λ c κs. search rules)  -- part-of-requires

@@ -73,8 +73,8 @@ module _ (file : List ℕ) (at : ℕ) (s : List ℕ) (e : s ≡ drop at file) (p
 shorter : (file : List ℕ) (at : ℕ) (s : List ℕ) → s ≡ drop at file → (z : List ℕ) → z ≡ drop 3 s → (k : ℕ) (y : List ℕ) → y ≡ drop k z → length y ≤ length file
 shorter file at s e z i k y m = rw (m, length-drop k z, i, length-drop 3 s, e, length-drop at file) (omega arith)
 
-pub guard-number-spec : {M : Type 1} → statement M
-guard-number-spec =
+pub guard_number_spec : {M : Type 1} → statement M
+guard_number_spec =
     tie.close
     (tie.spec
     (λ c κs. search rules)  -- skip-requires

@@ -10,8 +10,8 @@ use Rattle.reserve_tokens.proofs.Guarding.{Guarding, guarding-all, guarding-end,
 use Rattle.reserve_tokens.proofs.guard.only_guard_number.Statement.{statement}
 use Rattle.reserve_tokens.proofs.guard.only_guard_number.Tie as tie
 
-pub only-guard-number-spec : {M : Type 1} → statement M
-only-guard-number-spec =
+pub only_guard_number_spec : {M : Type 1} → statement M
+only_guard_number_spec =
     tie.close
     (tie.spec
     (λ file place parts found₀ t₀ found t. Guarding file place parts t found (only (guardTokens (front (drop place file)))))  -- Inv-loop

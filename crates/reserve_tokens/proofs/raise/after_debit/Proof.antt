@@ -4,8 +4,8 @@ use Rattle.reserve_tokens.proofs.Reserving.{debit-barred, debit-paid}
 use Rattle.reserve_tokens.proofs.raise.after_debit.Statement.{statement}
 use Rattle.reserve_tokens.proofs.raise.after_debit.Tie as tie
 
-pub after-debit-spec : {M : Type 1} → statement M
-after-debit-spec =
+pub after_debit_spec : {M : Type 1} → statement M
+after_debit_spec =
     tie.close
     (tie.spec
     (λ c κs. search rules)  -- skip-requires

@@ -4,8 +4,8 @@ use Rattle.reserve_tokens.proofs.Reserving.{unnamed_here, raise-comes-in, raise-
 use Rattle.reserve_tokens.proofs.raise.after_raise.Statement.{statement}
 use Rattle.reserve_tokens.proofs.raise.after_raise.Tie as tie
 
-pub after-raise-spec : {M : Type 1} → statement M
-after-raise-spec =
+pub after_raise_spec : {M : Type 1} → statement M
+after_raise_spec =
     tie.close
     (tie.spec
     (λ c κs. search rules)  -- skip-requires

@@ -20,8 +20,8 @@ module _ (file : List ℕ) (a : Agreed) (number debit : ℕ) (b : Bool) (e : b �
   unfolding agreedWith
   one-agreed h = rw (← e, h)
 
-pub agreed-with-spec : {M : Type 1} → statement M
-agreed-with-spec =
+pub agreed_with_spec : {M : Type 1} → statement M
+agreed_with_spec =
     tie.close (tie.spec
     (λ c κs. search rules)  -- is-barred-requires
     (λ c. search none-agreed)  -- returns

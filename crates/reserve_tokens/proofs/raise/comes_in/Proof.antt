@@ -24,8 +24,8 @@ module _ (entry v : Field) (x : List ℕ) (e : x ≡ assetAmountBacker v) where
   unfolding isInflow
   by-backer b f = f ∙ rw e
 
-pub comes-in-spec : {M : Type 1} → statement M
-comes-in-spec =
+pub comes_in_spec : {M : Type 1} → statement M
+comes_in_spec =
     tie.close
     (tie.spec
     (λ c κs. search rules)  -- asset-amount-backer-requires

@@ -4,9 +4,9 @@ use Rattle.reserve_tokens.specs.Reserving.{nameless}
 use Rattle.reserve_tokens.proofs.raise.has_unnamed.Statement.{statement}
 use Rattle.reserve_tokens.proofs.raise.has_unnamed.Tie as tie
 
-pub has-unnamed-spec : {M : Type 1} → statement M
+pub has_unnamed_spec : {M : Type 1} → statement M
 unfolding nameless
-has-unnamed-spec =
+has_unnamed_spec =
     tie.close
     (tie.spec
     (λ c. search rules)  -- slice-aggregate-has-asset-parameter

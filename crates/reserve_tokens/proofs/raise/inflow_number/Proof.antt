@@ -13,8 +13,8 @@ module _ (b k : Bool) (e : b ≡ k) (guard : ℕ) where
   by-guard : b ≡ false → guard ≡ cond k 0 guard
   by-guard h = rw (← e, h)
 
-pub inflow-number-spec : {M : Type 1} → statement M
-inflow-number-spec =
+pub inflow_number_spec : {M : Type 1} → statement M
+inflow_number_spec =
     tie.close (tie.spec
     (λ c κs. search rules)  -- is-credited-requires
     (λ c. search credited-too)  -- returns

@@ -4,8 +4,8 @@ use Rattle.reserve_tokens.proofs.Held.{same_number, unknown-bars, number-bars}
 use Rattle.reserve_tokens.proofs.raise.is_barred.Statement.{statement}
 use Rattle.reserve_tokens.proofs.raise.is_barred.Tie as tie
 
-pub is-barred-spec : {M : Type 1} → statement M
-is-barred-spec =
+pub is_barred_spec : {M : Type 1} → statement M
+is_barred_spec =
     tie.close
     (tie.spec
     (λ c. search same_number)  -- returns

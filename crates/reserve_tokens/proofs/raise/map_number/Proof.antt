@@ -28,8 +28,8 @@ last-again file a w x d last g m b f h =
     let k : known last ≡ true = is_known last (λ z. omega (arith, z, leb-true 1 (length last) (and_left (leb 1 (length last)) b h))) in
     rw (← bytes-equal last m (sym f ∙ and_right (leb 1 (length last)) b h)) (sym (rw (← d, ← g, k) at w.kept))
 
-pub map-number-spec : {M : Type 1} → statement M
-map-number-spec =
+pub map_number_spec : {M : Type 1} → statement M
+map_number_spec =
     tie.close
     (tie.spec
     (λ c κs. search rules)  -- skip-requires

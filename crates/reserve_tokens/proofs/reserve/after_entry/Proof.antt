@@ -5,8 +5,8 @@ use Rattle.reserve_tokens.proofs.Reserving.{entry_known}
 use Rattle.reserve_tokens.proofs.reserve.after_entry.Statement.{statement}
 use Rattle.reserve_tokens.proofs.reserve.after_entry.Tie as tie
 
-pub after-entry-spec : {M : Type 1} → statement M
-after-entry-spec =
+pub after_entry_spec : {M : Type 1} → statement M
+after_entry_spec =
     tie.close
     (tie.spec
     (λ c κs. search rules)  -- list-body-requires

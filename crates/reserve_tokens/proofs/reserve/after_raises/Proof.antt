@@ -7,8 +7,8 @@ use Rattle.reserve_tokens.proofs.Reserving.{Raises, raises-all, raises-barred, r
 use Rattle.reserve_tokens.proofs.reserve.after_raises.Statement.{statement}
 use Rattle.reserve_tokens.proofs.reserve.after_raises.Tie as tie
 
-pub after-raises-spec : {M : Type 1} → statement M
-after-raises-spec =
+pub after_raises_spec : {M : Type 1} → statement M
+after_raises_spec =
     tie.close
     (tie.spec
     (λ file entry calls name facts agreed₀ t₀ agreed t. Raises file name (front (drop entry.place file)) agreed₀ agreed t)  -- Inv-loop

@@ -7,8 +7,8 @@ use Rattle.reserve_tokens.proofs.Reserving.{Entries, entries-all, entry_here, en
 use Rattle.reserve_tokens.proofs.reserve.raises_number.Statement.{statement}
 use Rattle.reserve_tokens.proofs.reserve.raises_number.Tie as tie
 
-pub raises-number-spec : {M : Type 1} → statement M
-raises-number-spec =
+pub raises_number_spec : {M : Type 1} → statement M
+raises_number_spec =
     tie.close
     (tie.spec
     (λ file name facts scratch₀ agreed₀ t₀ scratch agreed t. Entries file name scratch₀ scratch agreed t)  -- Inv-loop

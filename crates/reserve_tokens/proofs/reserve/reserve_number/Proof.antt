@@ -30,8 +30,8 @@ module _ (file name : List ℕ) (n : ℕ) (f : tokenOf file n ≡ single (raiseT
     unfolding reserveToken
     starts-there h = f ∙ rw (← e, not-false a h)
 
-pub reserve-number-spec : {M : Type 1} → statement M
-reserve-number-spec =
+pub reserve_number_spec : {M : Type 1} → statement M
+reserve_number_spec =
     tie.close
     (tie.spec
     (λ c κs. search rules)  -- raises-number-requires

@@ -12,8 +12,8 @@ use Rattle.reserve_tokens.proofs.reserve.reserve_token.Tie as tie
 token-read : (file name r : List ℕ) (k : ℕ) → tokenOf file k ≡ reserveToken (fields file) name → r ≡ tokenOf file k → r ≡ reserveToken (fields file) name
 token-read file name r k e f = f ∙ e
 
-pub reserve-token-spec : {M : Type 1} → statement M
-reserve-token-spec =
+pub reserve_token_spec : {M : Type 1} → statement M
+reserve_token_spec =
     tie.close (tie.spec
     (λ c κs. search rules)  -- reserve-number-requires
     (λ c κs. search rules)  -- token-of-requires

@@ -37,8 +37,8 @@ module _ (model : Fields) (amounts : List Field) (entry : List ℕ) (g : Field) 
     unfolding stateNumber countedNumber counts
     by_state k r m = m ∙ rw (← i, ← d, ← e, ← lowered, not-false a h, not-false b k)
 
-pub counted-number-spec : {M : Type 1} → statement M
-counted-number-spec =
+pub counted_number_spec : {M : Type 1} → statement M
+counted_number_spec =
     tie.close
     (tie.spec
     (λ c κs. search rules)  -- guarded-amount-requires

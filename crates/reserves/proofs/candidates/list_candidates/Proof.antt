@@ -8,8 +8,8 @@ use Rattle.reserves.proofs.Unlowered.{none-assigned}
 use Rattle.reserves.proofs.candidates.list_candidates.Statement.{statement}
 use Rattle.reserves.proofs.candidates.list_candidates.Tie as tie
 
-pub list-candidates-spec : {M : Type 1} → statement M
-list-candidates-spec =
+pub list_candidates_spec : {M : Type 1} → statement M
+list_candidates_spec =
     tie.close
     (tie.spec
     (λ c κs. search rules)  -- skip-requires

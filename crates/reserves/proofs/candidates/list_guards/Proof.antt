@@ -51,8 +51,8 @@ module _ (file : List ℕ) (amounts : List Field) (place : ℕ) (t s : List ℕ)
   unfolding candidateNumbers
   all_listed x f last u at m i w = rw (← e, ← f) (listing-done candidate-row (fields file, amounts, front s) x (place + 3) t 0 last u at m i w)
 
-pub list-guards-spec : {M : Type 1} → statement M
-list-guards-spec =
+pub list_guards_spec : {M : Type 1} → statement M
+list_guards_spec =
     tie.close
     (tie.spec
     (λ file place asked lowered table₀ entry t₀ at₀ n₀ table t at n. Listing manyOf (fields file, askedAmounts file asked, front entry) t₀ at₀ table₀ 0 table t at n)  -- Inv-loop

@@ -5,8 +5,8 @@ use Rattle.reserves.proofs.Unlowered.{no-candidates, lowerings-listed}
 use Rattle.reserves.proofs.candidates.list_lowered_guards.Statement.{statement}
 use Rattle.reserves.proofs.candidates.list_lowered_guards.Tie as tie
 
-pub list-lowered-guards-spec : {M : Type 1} → statement M
-list-lowered-guards-spec =
+pub list_lowered_guards_spec : {M : Type 1} → statement M
+list_lowered_guards_spec =
     tie.close
     (tie.spec
     (λ c κs. search rules)  -- skip-requires

@@ -29,8 +29,8 @@ module _ (number at : ℕ) (t : List ℕ) (n : ℕ) where
   unfolding pair_of
   both-written k u m p v r q = rw (ne_eqb number 0 k) (listed_then (at % 65536 ∷ []) ((number - 1) % 65536 ∷ []) t u v n m r p q)
 
-pub note-candidate-spec : {M : Type 1} → statement M
-note-candidate-spec =
+pub note_candidate_spec : {M : Type 1} → statement M
+note_candidate_spec =
     tie.close (tie.spec
     (λ c. search none_written)  -- returns
     (λ c κs. (omega arith, search first_fits))  -- note-requires

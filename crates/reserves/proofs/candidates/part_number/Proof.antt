@@ -18,8 +18,8 @@ module _ (model : Fields) (amounts : List Field) (entry : Field) (s : List ℕ) 
   unfolding partNumber
   guard-part h x f r q = q ∙ rw (← e, eq-eqb g 0x10 h, f)
 
-pub part-number-spec : {M : Type 1} → statement M
-part-number-spec =
+pub part_number_spec : {M : Type 1} → statement M
+part_number_spec =
     tie.close (tie.spec
     (λ c κs. search rules)  -- tag-of-requires
     (λ c. search other-part)  -- returns

@@ -70,8 +70,8 @@ module _ (file name : List ℕ) where
         left = rw (k, ← from_row State State y, e) (sym (numbered_next name n x behind (sym g ∙ h)) ∙ here);
       }
 
-pub state-number-spec : {M : Type 1} → statement M
-state-number-spec =
+pub state_number_spec : {M : Type 1} → statement M
+state_number_spec =
     tie.close
     (tie.spec
     (λ file name t₀ n₀ t n. Passed file name t n)  -- Inv-loop

@@ -15,8 +15,8 @@ amount-read : (file s x y : List ℕ) (n : ℕ) → s ≡ drop n file → front 
 unfolding amountAt
 amount-read file s x y n e f g = rw (← e, ← f) g
 
-pub amount-at-spec : {M : Type 1} → statement M
-amount-at-spec =
+pub amount_at_spec : {M : Type 1} → statement M
+amount_at_spec =
     tie.close
     (tie.spec
     (λ c κs. search rules)  -- skip-requires

@@ -21,8 +21,8 @@ module _ (file token l : List ℕ) (i : ℕ) (v : Field) (n : ℕ) (d : n ≡ ge
       r ≡ exprEq (amountAt file (get_or l i 0)) v && holdsToken file token (get_or l (i + 1) 0)
   by_field o j g r q = q ∙ rw (g, ← d, ← e, ← f, not-false b o)
 
-pub covers-amount-spec : {M : Type 1} → statement M
-covers-amount-spec =
+pub covers_amount_spec : {M : Type 1} → statement M
+covers_amount_spec =
     tie.close
     (tie.spec
     (λ c κs. search rules)  -- number-at-requires

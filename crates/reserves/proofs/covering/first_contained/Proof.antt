@@ -26,8 +26,8 @@ module _ (file : List ℕ) (place : ℕ) (asked : List ℕ) (k : ℕ) (v : Field
   contained : not b ≡ false → (t : List ℕ) → t ≡ askedToken file asked k → (r : Reserve) → r ≡ firstCovering file v (holdsToken file t) l → r ≡ wanted
   contained h t g r q = q ∙ rw (g, ← e, ← f, not-false b h)
 
-pub first-contained-spec : {M : Type 1} → statement M
-first-contained-spec =
+pub first_contained_spec : {M : Type 1} → statement M
+first_contained_spec =
     tie.close
     (tie.spec
     (λ c κs. search rules)  -- skip-requires

@@ -8,8 +8,8 @@ use Rattle.reserves.proofs.Pairs.{Covering, covering-all, covering-none, coverin
 use Rattle.reserves.proofs.covering.first_covering.Statement.{statement}
 use Rattle.reserves.proofs.covering.first_covering.Tie as tie
 
-pub first-covering-spec : {M : Type 1} → statement M
-first-covering-spec =
+pub first_covering_spec : {M : Type 1} → statement M
+first_covering_spec =
     tie.close
     (tie.spec
     (λ file amount token candidates facts₀ scratch₀ i₀ facts scratch i. Covering file (front amount) token candidates facts₀ facts scratch₀ scratch i)  -- Inv-loop

@@ -8,8 +8,8 @@ use Rattle.reserves.proofs.Pairs.{Skipping, skipping-none, skipping-here, skippi
 use Rattle.reserves.proofs.covering.first_equal.Statement.{statement}
 use Rattle.reserves.proofs.covering.first_equal.Tie as tie
 
-pub first-equal-spec : {M : Type 1} → statement M
-first-equal-spec =
+pub first_equal_spec : {M : Type 1} → statement M
+first_equal_spec =
     tie.close
     (tie.spec
     (λ file amount candidates i₀ i. Skipping file (front amount) candidates i)  -- Inv-loop

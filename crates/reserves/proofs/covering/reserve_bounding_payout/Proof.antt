@@ -4,8 +4,8 @@ use Rattle.reserves.proofs.Searching.{none_equal, first-covers}
 use Rattle.reserves.proofs.covering.reserve_bounding_payout.Statement.{statement}
 use Rattle.reserves.proofs.covering.reserve_bounding_payout.Tie as tie
 
-pub reserve-bounding-payout-spec : {M : Type 1} → statement M
-reserve-bounding-payout-spec =
+pub reserve_bounding_payout_spec : {M : Type 1} → statement M
+reserve_bounding_payout_spec =
     tie.close
     (tie.spec
     (λ c κs. search rules)  -- asked-amount-requires

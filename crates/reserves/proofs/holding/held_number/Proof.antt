@@ -4,8 +4,8 @@ use Rattle.reserves.proofs.Remembering.{remembered-number}
 use Rattle.reserves.proofs.holding.held_number.Statement.{statement}
 use Rattle.reserves.proofs.holding.held_number.Tie as tie
 
-pub held-number-spec : {M : Type 1} → statement M
-held-number-spec =
+pub held_number_spec : {M : Type 1} → statement M
+held_number_spec =
     tie.close
     (tie.spec
     (λ c κs. search rules)  -- remembered-requires

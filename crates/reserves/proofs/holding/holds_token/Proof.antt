@@ -4,8 +4,8 @@ use Rattle.reserves.proofs.Remembering.{by_number}
 use Rattle.reserves.proofs.holding.holds_token.Statement.{statement}
 use Rattle.reserves.proofs.holding.holds_token.Tie as tie
 
-pub holds-token-spec : {M : Type 1} → statement M
-holds-token-spec =
+pub holds_token_spec : {M : Type 1} → statement M
+holds_token_spec =
     tie.close
     (tie.spec
     (λ c κs. search rules)  -- held-number-requires

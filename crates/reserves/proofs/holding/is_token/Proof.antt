@@ -20,8 +20,8 @@ module _ (t u : List ℕ) where
   unfolding isToken
   some-token n b e = rw (is_known u n, e)
 
-pub is-token-spec : {M : Type 1} → statement M
-is-token-spec =
+pub is_token_spec : {M : Type 1} → statement M
+is_token_spec =
     tie.close
     (tie.spec
     (λ c. search no-token)  -- returns

@@ -4,8 +4,8 @@ use Rattle.reserves.proofs.Remembering.{set-in, set-none}
 use Rattle.reserves.proofs.holding.remember.Statement.{statement}
 use Rattle.reserves.proofs.holding.remember.Tie as tie
 
-pub remember-spec : {M : Type 1} → statement M
-remember-spec =
+pub remember_spec : {M : Type 1} → statement M
+remember_spec =
     tie.close
     (tie.spec
     (λ c. search rules)  -- cast-facts

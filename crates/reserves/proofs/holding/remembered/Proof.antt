@@ -4,8 +4,8 @@ use Rattle.reserves.proofs.Remembering.{told_in, told-out}
 use Rattle.reserves.proofs.holding.remembered.Statement.{statement}
 use Rattle.reserves.proofs.holding.remembered.Tie as tie
 
-pub remembered-spec : {M : Type 1} → statement M
-remembered-spec =
+pub remembered_spec : {M : Type 1} → statement M
+remembered_spec =
     tie.close (tie.spec
     (λ c. search rules)  -- add-number-at
     (λ c κs. search rules)  -- number-at-requires

@@ -23,8 +23,8 @@ unfolding stateName stateNames
 nth-name file n t e x f =
     f ∙ ap (λ s. name_of (front s)) e ∙ ap (λ g. name_of g) (nth-of-row State State n file) ∙ named (fieldsFrom State State (fields file)) n
 
-pub state-name-spec : {M : Type 1} → statement M
-state-name-spec =
+pub state_name_spec : {M : Type 1} → statement M
+state_name_spec =
     tie.close
     (tie.spec
     (λ c κs. search rules)  -- nth-from-requires

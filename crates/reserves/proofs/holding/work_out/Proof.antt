@@ -4,8 +4,8 @@ use Rattle.reserves.proofs.Remembering.{worked-out, still-facts}
 use Rattle.reserves.proofs.holding.work_out.Statement.{statement}
 use Rattle.reserves.proofs.holding.work_out.Tie as tie
 
-pub work-out-spec : {M : Type 1} → statement M
-work-out-spec =
+pub work_out_spec : {M : Type 1} → statement M
+work_out_spec =
     tie.close
     (tie.spec
     (λ c κs. search rules)  -- state-name-requires

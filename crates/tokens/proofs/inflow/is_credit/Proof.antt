@@ -23,8 +23,8 @@ one_of_three f m e a b c p q r = rw (← e, ← p, ← q, ← r) (grouped a b c)
     grouped false false true = refl
     grouped false false false = refl
 
-pub is-credit-spec : {M : Type 1} → statement M
-is-credit-spec =
+pub is_credit_spec : {M : Type 1} → statement M
+is_credit_spec =
     tie.close
     (tie.spec
     (λ c κs. search rules)  -- method-requires

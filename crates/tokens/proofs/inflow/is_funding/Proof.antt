@@ -26,8 +26,8 @@ module _ (m : List ℕ) (entry f : Field) (a : Bool) (e : a ≡ isCredit f) wher
     unfolding isFunding
     by-amount i p q u v r o = o ∙ rw (← e, not-false a h, ← g, ← k, not-false b i, v, u)
 
-pub is-funding-spec : {M : Type 1} → statement M
-is-funding-spec =
+pub is_funding_spec : {M : Type 1} → statement M
+is_funding_spec =
     tie.close
     (tie.spec
     (λ c κs. search rules)  -- is-credit-requires

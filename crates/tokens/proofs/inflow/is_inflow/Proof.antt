@@ -16,8 +16,8 @@ inflow-read : (entry f : Field) (x : List ℕ) (r : Bool) → x ≡ assetAmountB
 unfolding isInflow
 inflow-read entry f x r e g = rw (← e) g
 
-pub is-inflow-spec : {M : Type 1} → statement M
-is-inflow-spec =
+pub is_inflow_spec : {M : Type 1} → statement M
+is_inflow_spec =
     tie.close
     (tie.spec
     (λ c κs. search rules)  -- asset-amount-backer-requires

@@ -31,8 +31,8 @@ module _ (f : Field) (p q x y : List ℕ) (d : front p ≡ part 0 f) (e : front 
     unfolding besideInAsset
     neither m = rw (← left, ← right, ← i, ← j, ne_eqb t 0x36 n, ne_eqb u 0x36 m)
 
-pub beside-in-asset-spec : {M : Type 1} → statement M
-beside-in-asset-spec =
+pub beside_in_asset_spec : {M : Type 1} → statement M
+beside_in_asset_spec =
     tie.close
     (tie.spec
     (λ c κs. search rules)  -- part-of-requires

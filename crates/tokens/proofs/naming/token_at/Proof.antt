@@ -25,8 +25,8 @@ module _ (entry : List ℕ) (k : ℕ) (s : List ℕ) (e : s ≡ drop (k % 32768)
   unfolding tokenAt tokenNamed conditionAt operator
   named h r q = q ∙ rw (← e, ← f, ← g, eq-eqb o 0x42 h)
 
-pub token-at-spec : {M : Type 1} → statement M
-token-at-spec =
+pub token_at_spec : {M : Type 1} → statement M
+token_at_spec =
     tie.close
     (tie.spec
     (λ c κs. search rules)  -- skip-requires

@@ -4,8 +4,8 @@ use borrow.Author.Rules.{rules}
 use Rattle.tokens.proofs.number.condition_number.Statement.{statement}
 use Rattle.tokens.proofs.number.condition_number.Tie as tie
 
-pub condition-number-spec : {M : Type 1} → statement M
-condition-number-spec =
+pub condition_number_spec : {M : Type 1} → statement M
+condition_number_spec =
     tie.close (tie.spec
     (λ c κs. search rules)  -- token-at-requires
     (λ c. search number-none)  -- returns

@@ -4,8 +4,8 @@ use borrow.Author.Rules.{rules}
 use Rattle.tokens.proofs.number.join.Statement.{statement}
 use Rattle.tokens.proofs.number.join.Tie as tie
 
-pub join-spec : {M : Type 1} → statement M
-join-spec =
+pub join_spec : {M : Type 1} → statement M
+join_spec =
     tie.close (tie.spec
     (λ c. search joined-empty)  -- returns
     (λ c. search joined-first)  -- returns-2

@@ -13,8 +13,8 @@ tokens-compared : (file x y : List ℕ) (a b : ℕ) (r : Bool) → x ≡ tokenOf
     r ≡ sameBytes (tokenOf file a) (tokenOf file b)
 tokens-compared file x y a b r e f g = rw (← e, ← f) g
 
-pub same-token-spec : {M : Type 1} → statement M
-same-token-spec =
+pub same_token_spec : {M : Type 1} → statement M
+same_token_spec =
     tie.close (tie.spec
     (λ c κs. search rules)  -- token-of-requires
     (λ c κs. search rules)  -- token-of-requires-2

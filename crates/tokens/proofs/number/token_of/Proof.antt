@@ -4,8 +4,8 @@ use borrow.Author.Rules.{rules}
 use Rattle.tokens.proofs.number.token_of.Statement.{statement}
 use Rattle.tokens.proofs.number.token_of.Tie as tie
 
-pub token-of-spec : {M : Type 1} → statement M
-token-of-spec =
+pub token_of_spec : {M : Type 1} → statement M
+token_of_spec =
     tie.close
     (tie.spec
     (λ c. search rules)  -- slice-aggregate-result

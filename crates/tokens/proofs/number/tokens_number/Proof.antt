@@ -4,8 +4,8 @@ use borrow.Author.Rules.{rules}
 use Rattle.tokens.proofs.number.tokens_number.Statement.{statement}
 use Rattle.tokens.proofs.number.tokens_number.Tie as tie
 
-pub tokens-number-spec : {M : Type 1} → statement M
-tokens-number-spec =
+pub tokens_number_spec : {M : Type 1} → statement M
+tokens_number_spec =
     tie.close
     (tie.spec
     (λ c κs. search rules)  -- skip-requires

@@ -8,8 +8,8 @@ use Rattle.tokens.proofs.Numbers.{Joining, markNumber, joining-all, joining-on, 
 use Rattle.tokens.proofs.number.tokens_number_among.Statement.{statement}
 use Rattle.tokens.proofs.number.tokens_number_among.Tie as tie
 
-pub tokens-number-among-spec : {M : Type 1} → statement M
-tokens-number-among-spec =
+pub tokens_number_among_spec : {M : Type 1} → statement M
+tokens_number_among_spec =
     tie.close
     (tie.spec
     (λ file place table count entry number₀ i₀ number i. Joining (markNumber entry place) file table count (tokensNumber file (placed_at file place)) i number)  -- Inv-loop

@@ -4,8 +4,8 @@ use Rattle.tokens.proofs.Agreeing.{first-unknown, second-unknown, both-known}
 use Rattle.tokens.proofs.set.tokens_differ.Statement.{statement}
 use Rattle.tokens.proofs.set.tokens_differ.Tie as tie
 
-pub tokens-differ-spec : {M : Type 1} → statement M
-tokens-differ-spec =
+pub tokens_differ_spec : {M : Type 1} → statement M
+tokens_differ_spec =
     tie.close
     (tie.spec
     (λ c. search first-unknown)  -- returns

@@ -5,8 +5,8 @@ use borrow.Author.Rules.{rules}
 use Rattle.tokens.proofs.token.admitted_inflow_token.Statement.{statement}
 use Rattle.tokens.proofs.token.admitted_inflow_token.Tie as tie
 
-pub admitted-inflow-token-spec : {M : Type 1} → statement M
-admitted-inflow-token-spec =
+pub admitted_inflow_token_spec : {M : Type 1} → statement M
+admitted_inflow_token_spec =
     tie.close (tie.spec
     (λ c κs. search rules)  -- tokens-number-requires
     (λ c κs. search rules)  -- token-of-requires

@@ -5,8 +5,8 @@ use Rattle.verdict.proofs.Placing.{told-tenth, left-tenth, told-eleventh, left-e
 use Rattle.verdict.proofs.entry.asked_verdict.Statement.{statement}
 use Rattle.verdict.proofs.entry.asked_verdict.Tie as tie
 
-pub asked-verdict-spec : {M : Type 1} → statement M
-asked-verdict-spec =
+pub asked_verdict_spec : {M : Type 1} → statement M
+asked_verdict_spec =
     tie.close
     (tie.spec
     (λ c κs. search rules)  -- number-at-requires

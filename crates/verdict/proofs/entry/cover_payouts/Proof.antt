@@ -4,8 +4,8 @@ use Rattle.verdict.proofs.Preparing.{payouts-room, candidates-fit, candidates-pa
 use Rattle.verdict.proofs.entry.cover_payouts.Statement.{statement}
 use Rattle.verdict.proofs.entry.cover_payouts.Tie as tie
 
-pub cover-payouts-spec : {M : Type 1} → statement M
-cover-payouts-spec =
+pub cover_payouts_spec : {M : Type 1} → statement M
+cover_payouts_spec =
     tie.close
     (tie.spec
     (λ c κs. (search rules, (search rules, (search payouts-room, search rules))))  -- list-candidates-requires

@@ -4,8 +4,8 @@ use Rattle.verdict.proofs.Placing.{place_inside, told-ninth, left-ninth, told-pl
 use Rattle.verdict.proofs.entry.entry_verdict.Statement.{statement}
 use Rattle.verdict.proofs.entry.entry_verdict.Tie as tie
 
-pub entry-verdict-spec : {M : Type 1} → statement M
-entry-verdict-spec =
+pub entry_verdict_spec : {M : Type 1} → statement M
+entry_verdict_spec =
     tie.close
     (tie.spec
     (λ c κs. search rules)  -- place-of-entry-requires

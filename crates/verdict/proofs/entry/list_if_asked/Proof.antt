@@ -4,8 +4,8 @@ use Rattle.reserves.proofs.Remembering.{facts-relisted}
 use Rattle.verdict.proofs.entry.list_if_asked.Statement.{statement}
 use Rattle.verdict.proofs.entry.list_if_asked.Tie as tie
 
-pub list-if-asked-spec : {M : Type 1} → statement M
-list-if-asked-spec =
+pub list_if_asked_spec : {M : Type 1} → statement M
+list_if_asked_spec =
     tie.close (tie.spec
     (λ c. search rules)  -- returns
     (λ c κs. search rules)  -- list-facts-requires

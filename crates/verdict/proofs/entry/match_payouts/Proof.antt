@@ -7,8 +7,8 @@ use Rattle.verdict.proofs.Running.{rejected-coded, rejected-unwritten, done_code
 use Rattle.verdict.proofs.entry.match_payouts.Statement.{statement}
 use Rattle.verdict.proofs.entry.match_payouts.Tie as tie
 
-pub match-payouts-spec : {M : Type 1} → statement M
-match-payouts-spec =
+pub match_payouts_spec : {M : Type 1} → statement M
+match_payouts_spec =
     tie.close
     (tie.spec
     (λ file entry candidates facts₀ scratch₀ covers sheet₀ pass₀ count k₀ facts scratch sheet pass k. Running file entry candidates facts₀ facts scratch₀ scratch sheet pass k)  -- Inv-loop

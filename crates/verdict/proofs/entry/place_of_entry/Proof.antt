@@ -5,8 +5,8 @@ use Rattle.verdict.proofs.Asking.{place-nowhere, place-there}
 use Rattle.verdict.proofs.entry.place_of_entry.Statement.{statement}
 use Rattle.verdict.proofs.entry.place_of_entry.Tie as tie
 
-pub place-of-entry-spec : {M : Type 1} → statement M
-place-of-entry-spec =
+pub place_of_entry_spec : {M : Type 1} → statement M
+place_of_entry_spec =
     tie.close (tie.spec
     (λ c κs. search rules)  -- nth-entry-requires
     (λ c κs. search rules)  -- is-whole-requires

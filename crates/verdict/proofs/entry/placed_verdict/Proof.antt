@@ -5,8 +5,8 @@ use Rattle.verdict.proofs.Placing.{told-there, left_there}
 use Rattle.verdict.proofs.entry.placed_verdict.Statement.{statement}
 use Rattle.verdict.proofs.entry.placed_verdict.Tie as tie
 
-pub placed-verdict-spec : {M : Type 1} → statement M
-placed-verdict-spec =
+pub placed_verdict_spec : {M : Type 1} → statement M
+placed_verdict_spec =
     tie.close
     (tie.spec
     (λ c κs. search rules)  -- read-entry-requires

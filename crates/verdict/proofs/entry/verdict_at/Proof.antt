@@ -4,8 +4,8 @@ use Rattle.reserves.proofs.Remembering.{facts-none}
 use Rattle.verdict.proofs.entry.verdict_at.Statement.{statement}
 use Rattle.verdict.proofs.entry.verdict_at.Tie as tie
 
-pub verdict-at-spec : {M : Type 1} → statement M
-verdict-at-spec =
+pub verdict_at_spec : {M : Type 1} → statement M
+verdict_at_spec =
     tie.close
     (tie.spec
     (λ c κs. search rules)  -- nothing-known-requires

@@ -49,8 +49,8 @@ module _ (file : List ℕ) (a : Answer) (e : asked a ≡ askFile file) where
     unfolding written
     left-no = rw no
 
-pub file-verdict-spec : {M : Type 1} → statement M
-file-verdict-spec =
+pub file_verdict_spec : {M : Type 1} → statement M
+file_verdict_spec =
     tie.close
     (tie.spec
     (λ c κs. search rules)  -- check-file-requires

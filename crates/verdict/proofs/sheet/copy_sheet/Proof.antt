@@ -5,8 +5,8 @@ use Rattle.verdict.proofs.Written.{Copying, copying-none, copying-same, copying-
 use Rattle.verdict.proofs.sheet.copy_sheet.Statement.{statement}
 use Rattle.verdict.proofs.sheet.copy_sheet.Tie as tie
 
-pub copy-sheet-spec : {M : Type 1} → statement M
-copy-sheet-spec =
+pub copy_sheet_spec : {M : Type 1} → statement M
+copy_sheet_spec =
     tie.close
     (tie.spec
     (λ sheet n covers₀ i₀ covers i. Copying sheet n covers₀ covers i)  -- Inv-loop

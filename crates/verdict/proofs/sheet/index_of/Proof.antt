@@ -4,9 +4,9 @@ use Rattle.claim.specs.Verdict.{index}
 use Rattle.verdict.proofs.sheet.index_of.Statement.{statement}
 use Rattle.verdict.proofs.sheet.index_of.Tie as tie
 
-pub index-of-spec : {M : Type 1} → statement M
+pub index_of_spec : {M : Type 1} → statement M
 unfolding index
-index-of-spec =
+index_of_spec =
     tie.close
     (tie.spec
     (λ c. search rules)  -- enum-known-cover

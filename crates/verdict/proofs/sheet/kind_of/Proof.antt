@@ -4,9 +4,9 @@ use Rattle.claim.specs.Verdict.{kind}
 use Rattle.verdict.proofs.sheet.kind_of.Statement.{statement}
 use Rattle.verdict.proofs.sheet.kind_of.Tie as tie
 
-pub kind-of-spec : {M : Type 1} → statement M
+pub kind_of_spec : {M : Type 1} → statement M
 unfolding kind
-kind-of-spec =
+kind_of_spec =
     tie.close
     (tie.spec
     (λ c. search rules)  -- enum-told

@@ -4,8 +4,8 @@ use Rattle.verdict.proofs.Written.{second-there, third-there, three-written}
 use Rattle.verdict.proofs.sheet.write_cover.Statement.{statement}
 use Rattle.verdict.proofs.sheet.write_cover.Tie as tie
 
-pub write-cover-spec : {M : Type 1} → statement M
-write-cover-spec =
+pub write_cover_spec : {M : Type 1} → statement M
+write_cover_spec =
     tie.close
     (tie.spec
     (λ c. search rules)  -- mul-at

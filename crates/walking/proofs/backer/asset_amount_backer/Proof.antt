@@ -4,8 +4,8 @@ use Rattle.walking.proofs.Nodes.{ends-behind, ends-within, no_member, other_name
 use Rattle.walking.proofs.backer.asset_amount_backer.Statement.{statement}
 use Rattle.walking.proofs.backer.asset_amount_backer.Tie as tie
 
-pub asset-amount-backer-spec : {M : Type 1} → statement M
-asset-amount-backer-spec =
+pub asset_amount_backer_spec : {M : Type 1} → statement M
+asset_amount_backer_spec =
     tie.close
     (tie.spec
     (λ c κs. search rules)  -- node-at-requires

@@ -6,8 +6,8 @@ use Rattle.walking.proofs.Assets.{assets-fall, Counted, counted_none, counted-fi
 use Rattle.walking.proofs.parameters.count_asset_parameters.Statement.{statement}
 use Rattle.walking.proofs.parameters.count_asset_parameters.Tie as tie
 
-pub count-asset-parameters-spec : {M : Type 1} → statement M
-count-asset-parameters-spec =
+pub count_asset_parameters_spec : {M : Type 1} → statement M
+count_asset_parameters_spec =
     tie.close
     (tie.spec
     (λ s t₀ n₀ t n. Counted s t n)  -- Inv-loop

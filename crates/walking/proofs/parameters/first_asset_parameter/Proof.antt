@@ -9,8 +9,8 @@ use Rattle.walking.specs.Walking.{isAssetParameter}
 use Rattle.walking.proofs.parameters.first_asset_parameter.Statement.{statement}
 use Rattle.walking.proofs.parameters.first_asset_parameter.Tie as tie
 
-pub first-asset-parameter-spec : {M : Type 1} → statement M
-first-asset-parameter-spec =
+pub first_asset_parameter_spec : {M : Type 1} → statement M
+first_asset_parameter_spec =
     tie.close
     (tie.spec
     (λ s t₀ t. Choosing Parameter Parameter isAssetParameter s t)  -- Inv-loop

@@ -6,8 +6,8 @@ use Rattle.walking.proofs.Assets.{assets-fall, Unfound, unfound-first, unfound-f
 use Rattle.walking.proofs.parameters.has_asset_parameter.Statement.{statement}
 use Rattle.walking.proofs.parameters.has_asset_parameter.Tie as tie
 
-pub has-asset-parameter-spec : {M : Type 1} → statement M
-has-asset-parameter-spec =
+pub has_asset_parameter_spec : {M : Type 1} → statement M
+has_asset_parameter_spec =
     tie.close
     (tie.spec
     (λ s name t₀ t. Unfound s name t)  -- Inv-loop

@@ -14,8 +14,8 @@ asset-read : (s x y : List ℕ) (r : Bool) → front x ≡ part 1 (front s) → 
 unfolding isAssetParameter
 asset-read s x y r e f g = rw (← e, ← f) g
 
-pub is-asset-parameter-spec : {M : Type 1} → statement M
-is-asset-parameter-spec =
+pub is_asset_parameter_spec : {M : Type 1} → statement M
+is_asset_parameter_spec =
     tie.close
     (tie.spec
     (λ c κs. search rules)  -- part-of-requires

@@ -16,8 +16,8 @@ module _ (s x : List ℕ) (n : ℕ) (e : x ≡ drop n s) where
   peel-shown : n ≡ peelPlace (length s) 0 (front s) → x ≡ drop (peelPlace (length s) 0 (front s)) s
   peel-shown f = rw (← f) e
 
-pub peel-spec : {M : Type 1} → statement M
-peel-spec =
+pub peel_spec : {M : Type 1} → statement M
+peel_spec =
     tie.close (tie.spec
     (λ c κs. search rules)  -- peel-place-requires
     (λ c κs. search rules)  -- skip-requires

@@ -122,8 +122,8 @@ module _ (s t : List ℕ) (at : ℕ) (i : Peeling s t at) (g : ℕ) (e : g ≡ t
             stands = rw (fields-next u some) at through-place;
           }
 
-pub peel-place-spec : {M : Type 1} → statement M
-peel-place-spec =
+pub peel_place_spec : {M : Type 1} → statement M
+peel_place_spec =
     tie.close
     (tie.spec
     (λ s t₀ at₀ t at. Peeling s t at)  -- Inv-loop

@@ -29,8 +29,8 @@ module _ (s : List ℕ) (t : ℕ) (e : t ≡ tag (front s)) where
     unnamed-shown : [] ≡ take (length (ident (front s))) (drop 3 s)
     unnamed-shown = rw (← unnamed)
 
-pub ident-spec : {M : Type 1} → statement M
-ident-spec =
+pub ident_spec : {M : Type 1} → statement M
+ident_spec =
     tie.close (tie.spec
     (λ c κs. search rules)  -- tag-of-requires
     (λ c κs. search rules)  -- text-of-requires

@@ -22,8 +22,8 @@ module _ (s name callee base key amount : List ℕ) (called there : Bool) (t u :
   unfolding isDebit
   debit-read a b c d e f g h i = rw (← a, b, ← c, ← d, ← e, ← f, ← g, ← h, i)
 
-pub is-debit-spec : {M : Type 1} → statement M
-is-debit-spec =
+pub is_debit_spec : {M : Type 1} → statement M
+is_debit_spec =
     tie.close
     (tie.spec
     (λ c κs. search rules)  -- method-requires

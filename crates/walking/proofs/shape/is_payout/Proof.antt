@@ -21,8 +21,8 @@ module _ (s callee name value : List ℕ) (called there : Bool) (t : ℕ) where
   unfolding isPayout
   payout-read a b c d e f = rw (← a, ← b, ← c, d, ← e, f)
 
-pub is-payout-spec : {M : Type 1} → statement M
-is-payout-spec =
+pub is_payout_spec : {M : Type 1} → statement M
+is_payout_spec =
     tie.close
     (tie.spec
     (λ c κs. search rules)  -- tag-of-requires

@@ -11,8 +11,8 @@ use Rattle.walking.proofs.shape.is_present.Tie as tie
 present-read : (f : Field) (t : ℕ) → t ≡ tag f → leb 1 t ≡ present f
 present-read f t e = rw e
 
-pub is-present-spec : {M : Type 1} → statement M
-is-present-spec =
+pub is_present_spec : {M : Type 1} → statement M
+is_present_spec =
     tie.close (tie.spec
     (λ c κs. search rules)  -- tag-of-requires
     (λ c. search present-read))  -- returns

@@ -20,8 +20,8 @@ module _ (s k : List ℕ) (e : front k ≡ part 0 (front s)) (t u : ℕ) (f : t 
   unfolding method
   not-called h = rw (← e, ← f, ← g, h)
 
-pub method-spec : {M : Type 1} → statement M
-method-spec =
+pub method_spec : {M : Type 1} → statement M
+method_spec =
     tie.close
     (tie.spec
     (λ c κs. search rules)  -- part-of-requires

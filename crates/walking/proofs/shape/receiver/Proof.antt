@@ -12,8 +12,8 @@ receiver-read : (s x y z : List ℕ) → front x ≡ part 0 (front s) → front 
 unfolding receiver
 receiver-read s x y z e f g = rw (← e, ← f) g
 
-pub receiver-spec : {M : Type 1} → statement M
-receiver-spec =
+pub receiver_spec : {M : Type 1} → statement M
+receiver_spec =
     tie.close (tie.spec
     (λ c κs. search rules)  -- part-of-requires
     (λ c κs. search rules)  -- part-of-requires-2

@@ -24,8 +24,8 @@ use Rattle.fields.proofs.table.note.Reads as note-reads
 use Rattle.walking.proofs.walk.+visit_expression_visit_parts.{statement}
 use Rattle.walking.proofs.walk.+visit_expression_visit_parts.Tie.{close}
 
-pub +visit-expression-visit-parts-spec : {M : Type 1} → statement M
-+visit-expression-visit-parts-spec =
+pub +visit_expression_visit_parts_spec : {M : Type 1} → statement M
++visit_expression_visit_parts_spec =
     close
     (λ κs a. 2 * length a.0.now)  -- μ-visit-expression
     (λ κs a. 2 * length a.0.now + 1)  -- μ-visit-parts

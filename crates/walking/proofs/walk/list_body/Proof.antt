@@ -44,8 +44,8 @@ module _ (file : List ℕ) (place wanted : ℕ) (t s : List ℕ) (e : s ≡ drop
   unfolding bodyExprs
   entry-body x f u r p = rw (← e, ← f) p
 
-pub list-body-spec : {M : Type 1} → statement M
-list-body-spec =
+pub list_body_spec : {M : Type 1} → statement M
+list_body_spec =
     tie.close
     (tie.spec
     (λ c κs. search rules)  -- skip-requires

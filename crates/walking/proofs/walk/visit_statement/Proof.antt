@@ -6,8 +6,8 @@ use Rattle.walking.proofs.Visits.{statement-zero, no-statement, statement-parts}
 use Rattle.walking.proofs.walk.visit_statement.Statement.{statement}
 use Rattle.walking.proofs.walk.visit_statement.Tie as tie
 
-pub visit-statement-spec : {M : Type 1} → statement M
-visit-statement-spec =
+pub visit_statement_spec : {M : Type 1} → statement M
+visit_statement_spec =
     tie.close
     (tie.spec
     (λ c κs. search rules)  -- tag-of-requires

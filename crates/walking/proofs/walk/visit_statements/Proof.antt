@@ -13,8 +13,8 @@ use Rattle.walking.proofs.Visits.{statements}
 use Rattle.walking.proofs.walk.visit_statements.Statement.{statement}
 use Rattle.walking.proofs.walk.visit_statements.Tie as tie
 
-pub visit-statements-spec : {M : Type 1} → statement M
-visit-statements-spec =
+pub visit_statements_spec : {M : Type 1} → statement M
+visit_statements_spec =
     tie.close
     (tie.spec
     (λ s base tag table₀ n t₀ at₀ m₀ table t at m. Listing (λ t k fs. places_of t (flat_map stmtExprs (placed k fs))) tag s base table₀ n table t at m)  -- Inv-loop
