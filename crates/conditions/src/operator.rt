@@ -6,6 +6,7 @@ ghost use Rattle.conditions.specs.Conditions.{opposite};
 use tags::{EQ, GE, GT, LE, LT, NE};
 
 // Eq/Ne, Lt/Ge, Gt/Le trade places; any other tag stays.
+#[tactic(auto, unfolding(crate::specs::Conditions::opposite))]
 fn opposite_of(tag: u8) -> u8
     ensures { result ≡ opposite tag }
 {

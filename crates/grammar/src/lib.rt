@@ -12,6 +12,7 @@ use tags::{
 // The slots that are left for the parts of a field, the next one first; 0 is none. A slot is a class of tags, with 16 more
 // for at most one part and 32 more for any count.
 #[derive(Drop)]
+#[derive(Clone, Copy)]
 pub struct Slots {
     pub first: u8,
     pub second: u8,
