@@ -15,7 +15,7 @@ use Rattle.laws.proofs.Truths.{and_right, either}
 use Rattle.tags.specs.Tag.{State, between}
 use Rattle.fields.specs.Field.{Field, Fields, fields, tag, fieldsTo, row, fieldsFrom, whole, after}
 use Rattle.model.specs.Model.{stateNames, entries}
-use Rattle.questions.specs.Questions.{Asked, passes, fails, ask, ◌andThen◌, askForm, askFile, at_most}
+use Rattle.questions.specs.Questions.{Asked, passes, fails, ask, ◌and_then◌, askForm, askFile, at_most}
 use Rattle.walking.specs.Walking.{debits, assetParams, isPayout, bodyExprs}
 use Rattle.matching.specs.Matching.{Cover, Marks, debitBackings, parameterBackings, answer}
 use Rattle.matching.specs.Matching.Answer.{cover}

@@ -3,7 +3,7 @@ use Rattle.std.specs.Prelude.{ℕ, suc, ◌+◌, ◌-◌, ◌*◌, ◌/◌, ◌%
 use Rattle.laws.specs.Lists.{filter}
 use Rattle.fields.specs.Field.{Field, Fields, Placed, fields, nothing}
 use Rattle.model.specs.Model.{entries}
-use Rattle.questions.specs.Questions.{Asked, passes, fails, ask, ◌andThen◌, at_most, askFile}
+use Rattle.questions.specs.Questions.{Asked, passes, fails, ask, ◌and_then◌, at_most, askFile}
 use Rattle.walking.specs.Walking.{bodyExprs, isPayout, debits, assetParams, payouts}
 use Rattle.matching.specs.Matching.{Cover, Reason, Marks, cover, rejection, answer, start}
 use Rattle.matching.specs.Matching.Cover.{equalDebit, equalParameter, boundingDebit, boundingParameter, reserve}

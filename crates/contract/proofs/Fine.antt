@@ -20,7 +20,7 @@ use Rattle.fields.proofs.Inside.{Stands}
 use Rattle.fields.proofs.Places.{tree-size}
 use Rattle.model.specs.Model.{states, entries, name_of}
 use Rattle.grammar.specs.Grammar.{slots_of, advance, complete}
-use Rattle.questions.specs.Questions.{Asked, passes, fails, ask, ◌andThen◌, contentAllowed, depthInside, askField, askFields, askNames, at_most, askForm, askFile}
+use Rattle.questions.specs.Questions.{Asked, passes, fails, ask, ◌and_then◌, contentAllowed, depthInside, askField, askFields, askNames, at_most, askForm, askFile}
 use Rattle.walking.specs.Walking.{bodyExprs, isPayout, payouts}
 use Rattle.walking.specs.Table.{placed_at, places_of}
 use Rattle.entries.specs.Calls.{passesAt, placesWhere, bodyWhere}

@@ -10,7 +10,7 @@ use lib.ListN.{length, drop, length-drop}
 use Rattle.laws.specs.Lists.{filter}
 use Rattle.fields.specs.Field.{Fields, Placed, fields}
 use Rattle.model.specs.Model.{states, entries}
-use Rattle.questions.specs.Questions.{Asked, passes, fails, ask, ◌andThen◌, at_most, askForm, askNames, askFile}
+use Rattle.questions.specs.Questions.{Asked, passes, fails, ask, ◌and_then◌, at_most, askForm, askNames, askFile}
 use Rattle.walking.specs.Walking.{bodyExprs, isPayout, payouts}
 use Rattle.matching.specs.Matching.{Cover, start}
 use Rattle.claim.specs.Verdict.{accepted, matching, backingCount, entry_at, askEntry, entryVerdict}

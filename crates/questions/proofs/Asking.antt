@@ -25,7 +25,7 @@ use Rattle.fields.proofs.Parts.{tag-front}
 use Rattle.cursor.proofs.Steps.{PartFound, part-is, cut-is, end_is}
 use Rattle.grammar.specs.Grammar.{grammar, slotsIn, slots_of, advance, complete}
 use Rattle.grammar.specs.Slots.{slotList, leftBy}
-use Rattle.questions.specs.Questions.{Asked, ◌andThen◌, ask, contentAllowed, depthInside, askField, askFields}
+use Rattle.questions.specs.Questions.{Asked, ◌and_then◌, ask, contentAllowed, depthInside, askField, askFields}
 use Rattle.questions.specs.Questions.Asked.{passes, fails}
 use Rattle.questions.specs.Answers.{asked}
 use Rattle.questions.specs.Room.{Room}

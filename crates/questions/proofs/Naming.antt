@@ -21,7 +21,7 @@ use Rattle.fields.proofs.Parts.{tag-front}
 use Rattle.fields.proofs.Prefix.{end_of, prefix-ends, prefix-from}
 use Rattle.model.specs.Model.{name_of, states, stateNames}
 use Rattle.questions.specs.Noted.{Noted, namesWith}
-use Rattle.questions.specs.Questions.{ask, ◌andThen◌, askNames}
+use Rattle.questions.specs.Questions.{ask, ◌and_then◌, askNames}
 use Rattle.questions.specs.Answers.{asked}
 use Rattle.questions.specs.declared.check.Answer.TheVariants as answer
 use Rattle.questions.proofs.Noting.{noted-none}

@@ -16,8 +16,8 @@ pub data Asked : Type 0 where
   fails : (number place : ℕ) → Asked
 
 -- the questions of a, then those of b
-infixr 25 ◌andThen◌
-abbrev pub ◌andThen◌ : Asked → Asked → Asked
+infixr 25 ◌and_then◌
+abbrev pub ◌and_then◌ : Asked → Asked → Asked
 passes and_then b = b
 fails n p and_then b = fails n p
 

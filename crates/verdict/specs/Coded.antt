@@ -1,7 +1,7 @@
 -- The verdict as the code gives it.
 use Rattle.std.specs.Prelude.{ℕ, ◌*◌, List, leb, length}
 use Rattle.fields.specs.Field.{Fields, Placed, fields}
-use Rattle.questions.specs.Questions.{Asked, ask, at_most, ◌andThen◌}
+use Rattle.questions.specs.Questions.{Asked, ask, at_most, ◌and_then◌}
 use Rattle.questions.specs.Questions.Asked.{passes, fails}
 use Rattle.walking.specs.Walking.{isPayout, payouts}
 use Rattle.walking.specs.Table.{placed_at}

@@ -21,11 +21,11 @@ Within low high (p ∷ ps) = (low ≤ p.place) × Within (p.place + 3) high ps
 
 pub within_wider : (a b c d : ℕ) (ps : List Placed) → a ≤ b → c ≤ d → Within b c ps → Within a d ps
 within_wider a b c d [] h k w = omega arith
-within_wider a b c d (p ∷ ps) h k w = (omega (arith, w.0), within_wider _ _ c d ps (omega arith) k w.1)
+within_wider a b c d (p ∷ ps) h k w = (omega (arith, w.0), within_wider (p.place + 3) (p.place + 3) c d ps (omega arith) k w.1)
 
 within-append : (a b c : ℕ) (ps qs : List Placed) → Within a b ps → Within b c qs → Within a c (ps ++ qs)
 within-append a b c [] qs w v = within_wider a b c c qs w (omega arith) v
-within-append a b c (p ∷ ps) qs w v = (w.0, within-append _ b c ps qs w.1 v)
+within-append a b c (p ∷ ps) qs w v = (w.0, within-append (p.place + 3) b c ps qs w.1 v)
 
 pub within-length : (a b : ℕ) (ps : List Placed) → Within a b ps → a + 3 * length ps ≤ b
 within-length a b [] w = omega (arith, w)

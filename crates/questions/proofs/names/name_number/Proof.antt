@@ -36,8 +36,8 @@ name_number_spec =
     (λ c. search none)  -- loop-holds
     (λ c. search rules)  -- mul-number
     (λ c. search rules)  -- shared-slice-read-number
-    (λ c. omega (arith, c.shared-slice-known.given c.before.before.loop.i))  -- cast-number
-    (λ c. omega (arith, c.shared-slice-known.given c.before.before.loop.i))  -- add-number
+    (λ c. search rules)  -- cast-number
+    (λ c. search rules)  -- add-number
     (λ c. search rules)  -- add-i
     (λ c. search rules)  -- loop-less
     (λ c. search more)  -- loop-again

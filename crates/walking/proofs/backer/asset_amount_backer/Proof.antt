@@ -8,24 +8,23 @@ pub asset_amount_backer_spec : {M : Type 1} → statement M
 asset_amount_backer_spec =
     tie.close
     (tie.spec
-    (λ c κs. search rules)  -- node-at-requires
-    (λ c. search rules)  -- enum-told
-    (λ c. search rules)  -- enum-told-2
-    (λ c. search rules)  -- slice-aggregate-result
-    (λ c. search no_member)  -- returns
-    (λ c κs. search rules)  -- part-of-requires
-    (λ c κs. search rules)  -- text-of-requires
-    (λ c. search rules)  -- slice-aggregate-same-bytes
-    (λ c κs. search rules)  -- same-bytes-requires
-    (λ c. search rules)  -- slice-aggregate-result-2
-    (λ c. search other_name)  -- returns-2
-    (λ c κs. search rules)  -- part-of-requires-2
-    (λ c κs. search rules)  -- node-at-requires-2
-    (λ c. search rules)  -- enum-known-end
-    (λ c. search rules)  -- enum-told-3
-    (λ c. search rules)  -- slice-aggregate-result-3
-    (λ c. search no-identifier)  -- returns-3
-    (λ c. search (ends-behind, rules))  -- sub-result
-    (λ c. search (ends-behind, rules))  -- part-result-start
-    (λ c. search (ends-within, rules))  -- part-result-end
-    (λ c. search the-base))  -- returns-4
+    (λ c κs. search rules)  -- node_at-requires
+    (λ c. search rules)  -- enum_told-1
+    (λ c. search rules)  -- enum_told-in_default
+    (λ c. search rules)  -- slice_bounds-result-end
+    (λ c. search no_member)  -- returns-in_default
+    (λ c κs. search rules)  -- part_of-requires
+    (λ c κs. search rules)  -- text_of-requires
+    (λ c κs. search rules)  -- same_bytes-requires
+    (λ c. search rules)  -- slice_bounds-result-end-then-not-same_bytes
+    (λ c. search other_name)  -- returns-then-not-same_bytes
+    (λ c κs. search rules)  -- part_of-base-requires
+    (λ c κs. search rules)  -- node_at-requires-2
+    (λ c. search rules)  -- enum_known-end
+    (λ c. search rules)  -- enum_told-in_default-node_at
+    (λ c. search rules)  -- slice_bounds-result-end-in_default-node_at
+    (λ c. search no-identifier)  -- returns-in_default-node_at
+    (λ c. search (ends-behind, rules))  -- slice_bounds-result-count
+    (λ c. search (ends-behind, rules))  -- slice_bounds-result-start
+    (λ c. search (ends-within, rules))  -- slice_bounds-result-end-2
+    (λ c. search the-base))

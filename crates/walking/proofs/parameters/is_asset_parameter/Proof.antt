@@ -18,8 +18,7 @@ pub is_asset_parameter_spec : {M : Type 1} → statement M
 is_asset_parameter_spec =
     tie.close
     (tie.spec
-    (λ c κs. search rules)  -- part-of-requires
-    (λ c κs. search rules)  -- text-of-requires
-    (λ c. search rules)  -- slice-aggregate-same-bytes
-    (λ c κs. search rules)  -- same-bytes-requires
-    (λ c. search asset-read))  -- returns
+    (λ c κs. search rules)  -- part_of-requires
+    (λ c κs. search rules)  -- text_of-requires
+    (λ c κs. search rules)  -- same_bytes-requires
+    (λ c. search asset-read))

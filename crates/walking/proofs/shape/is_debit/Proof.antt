@@ -27,13 +27,12 @@ is_debit_spec =
     tie.close
     (tie.spec
     (λ c κs. search rules)  -- method-requires
-    (λ c. search rules)  -- slice-aggregate-same-bytes
-    (λ c κs. search rules)  -- same-bytes-requires
-    (λ c κs. search rules)  -- part-of-requires
-    (λ c κs. search rules)  -- part-of-requires-2
-    (λ c κs. search rules)  -- tag-of-requires
-    (λ c κs. search rules)  -- part-of-requires-3
-    (λ c κs. search rules)  -- tag-of-requires-2
-    (λ c κs. search rules)  -- part-of-requires-4
-    (λ c κs. search rules)  -- is-present-requires
-    (λ c. search debit-read))  -- returns
+    (λ c κs. search rules)  -- same_bytes-requires
+    (λ c κs. search rules)  -- part_of-requires
+    (λ c κs. search rules)  -- part_of-requires-2
+    (λ c κs. search rules)  -- tag_of-requires
+    (λ c κs. search rules)  -- part_of-requires-3
+    (λ c κs. search rules)  -- tag_of-requires-2
+    (λ c κs. search rules)  -- part_of-requires-4
+    (λ c κs. search rules)  -- is_present-requires
+    (λ c. search debit-read))

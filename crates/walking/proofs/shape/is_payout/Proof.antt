@@ -25,11 +25,10 @@ pub is_payout_spec : {M : Type 1} → statement M
 is_payout_spec =
     tie.close
     (tie.spec
-    (λ c κs. search rules)  -- tag-of-requires
-    (λ c κs. search rules)  -- part-of-requires
+    (λ c κs. search rules)  -- tag_of-requires
+    (λ c κs. search rules)  -- part_of-requires
     (λ c κs. search rules)  -- ident-requires
-    (λ c. search rules)  -- slice-aggregate-same-bytes
-    (λ c κs. search rules)  -- same-bytes-requires
-    (λ c κs. search rules)  -- part-of-requires-2
-    (λ c κs. search rules)  -- is-present-requires
-    (λ c. search payout-read))  -- returns
+    (λ c κs. search rules)  -- same_bytes-requires
+    (λ c κs. search rules)  -- part_of-requires-2
+    (λ c κs. search rules)  -- is_present-requires
+    (λ c. search payout-read))
