@@ -12,5 +12,5 @@ zevdrak_verdict_spec =
     (λ c κs. search rules)  -- numbers-of-requires
     (λ c. search rules)  -- same-length
     (λ c.
-    let n = c.Numbers-of.ensures.told _ _ c.before.before.before.file-verdict.ensures.0 in
+    let n = c.Numbers-of.ensures.told _ _ c.before.before.before.file_verdict.ensures.0 in
     (n.what, (n.one, (n.other, (search rules, demand-3-of _ _ _ _ _ refl (search rules)))))))  -- returns

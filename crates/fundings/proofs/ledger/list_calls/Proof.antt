@@ -19,6 +19,6 @@ list_calls_spec =
     (λ c κs. (search rules, search filling-room))  -- list-call-requires
     (λ c. omega arith)  -- add-i
     (λ c. omega arith)  -- loop-less
-    (λ c. filling-on _ _ _ _ _ _ _ _ _ (search rules) (search rules) _ (search rules) _ _ c.before.before.list-call.ensures)  -- loop-again
+    (λ c. filling-on _ _ _ _ _ _ _ _ _ (search rules) (search rules) _ (search rules) _ _ c.before.before.list_call.ensures)  -- loop-again
     (λ c. omega arith)  -- same-length
     (λ c. search filling-done))  -- returns

@@ -27,11 +27,8 @@ pub is_credit_spec : {M : Type 1} → statement M
 is_credit_spec =
     tie.close
     (tie.spec
-    (λ c κs. search rules)  -- method-requires
-    (λ c. search rules)  -- slice-aggregate-same-bytes
-    (λ c κs. search rules)  -- same-bytes-requires
-    (λ c. search rules)  -- slice-aggregate-same-bytes-2
-    (λ c κs. search rules)  -- same-bytes-requires-2
-    (λ c. search rules)  -- slice-aggregate-same-bytes-3
-    (λ c κs. search rules)  -- same-bytes-requires-3
-    (λ c. search one_of_three))  -- returns
+    (λ c κs. search rules)  -- method-name-requires
+    (λ c κs. search rules)  -- same_bytes-requires
+    (λ c κs. search rules)  -- same_bytes-requires-2
+    (λ c κs. search rules)  -- same_bytes-requires-3
+    (λ c. search one_of_three))
