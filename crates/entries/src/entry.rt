@@ -9,6 +9,7 @@ use tags::CALL;
 use walking::walk::list_body;
 
 #[derive(Drop)]
+#[derive(Clone, Copy)]
 pub struct Entry {
     pub place: usize,
     pub debits: usize,

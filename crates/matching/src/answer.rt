@@ -22,6 +22,7 @@ use walking::shape::is_present;
 
 // A cover is one of five kinds, with an index among debits, asset parameters or state fields.
 #[derive(Drop)]
+#[derive(Clone, Copy)]
 pub enum Cover {
     EqualDebit { index: usize },
     EqualParameter { index: usize },
@@ -32,6 +33,7 @@ pub enum Cover {
 
 // Why a payout is rejected.
 #[derive(Drop)]
+#[derive(Clone, Copy)]
 pub enum Reason {
     SplitWithoutAmount,
     ConflictAtEqual,
@@ -43,6 +45,7 @@ pub enum Reason {
 
 // The answer for one payout.
 #[derive(Drop)]
+#[derive(Clone, Copy)]
 pub enum Answer {
     Covered { cover: Cover },
     Rejected { reason: Reason },
@@ -50,6 +53,7 @@ pub enum Answer {
 
 // The pass over the payouts of an entry: the marks, and what is remembered of the token that the entry admits.
 #[derive(Drop)]
+#[derive(Clone, Copy)]
 pub struct Pass {
     pub marks: Marks,
     pub admitted: usize,

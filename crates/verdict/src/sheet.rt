@@ -50,8 +50,8 @@ pub fn write_cover(cover: Cover, sheet: &mut [u8], k: usize) -> usize
 
 // Copies the first n bytes of a sheet into the lent covers, and leaves what stands behind them.
 pub fn copy_sheet(sheet: &[u8], n: usize, covers: &mut [u8])
-    requires n_in_bounds { n ≤ length covers.old }
-    requires n_in_bounds_2 { n ≤ length sheet.now }
+    requires room { n ≤ length covers.old }
+    requires there { n ≤ length sheet.now }
     ensures { covers.new ≡ take n sheet.now ++ drop n covers.old }
 {
     let mut i = 0;

@@ -1,0 +1,14 @@
+-- Whoever lists the calls that are left has listed all.
+use borrow.Author.Rules.{rules}
+use native.Mathlib.Omega.{arith}
+use Prim.Native.Nat.{◌-◌}
+use lib.ListN.{length}
+use Rattle.fields.specs.Field.{front}
+use Rattle.fundings.proofs.Filling.{Filling, filling-all, filling-room, filling-on, filling-done}
+use Rattle.fundings.proofs.ledger.list_calls.Given as goal
+
+abbrev pub invariant-loop-i : goal.invariant-loop-i
+invariant-loop-i l = Filling l.file (front l.entry) l.calls l.number l.initial.table l.n l.table l.i l.m
+
+abbrev pub decreases-loop-i : goal.decreases-loop-i
+decreases-loop-i l = length l.calls - l.i

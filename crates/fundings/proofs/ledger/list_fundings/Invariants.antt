@@ -1,0 +1,14 @@
+-- What stands in front of an entry is what is cut off, so its place is known; whoever lists those that are left has listed all.
+use borrow.Author.Rules.{rules}
+use native.Mathlib.Omega.{arith}
+use lib.ListN.{length}
+use Rattle.laws.proofs.Told.{told_is}
+use Rattle.fields.proofs.Rows.{from_less}
+use Rattle.fundings.proofs.Entering.{Entering, entering-first, entering-here, entering-on, entering-done}
+use Rattle.fundings.proofs.ledger.list_fundings.Given as goal
+
+abbrev pub invariant-loop-t : goal.invariant-loop-t
+invariant-loop-t l = Entering l.file l.initial.table l.table l.t l.m
+
+abbrev pub decreases-loop-t : goal.decreases-loop-t
+decreases-loop-t l = length l.t
