@@ -8,11 +8,11 @@ pub payout_amount_spec : {M : Type 1} → statement M
 payout_amount_spec =
     tie.close
     (tie.spec
-    (λ c κs. search rules)  -- part-of-requires
-    (λ c κs. search rules)  -- peel-requires
+    (λ c κs. search rules)  -- part_of-value-requires
+    (λ c κs. search rules)  -- peel-call-requires
     (λ c κs. search rules)  -- method-requires
-    (λ c. search rules)  -- slice-aggregate-same-bytes
-    (λ c κs. search rules)  -- same-bytes-requires
-    (λ c κs. search rules)  -- part-of-requires-2
-    (λ c. (search split-amount, search split-within))  -- returns
-    (λ c. (search whole-amount, search whole-within)))  -- returns-2
+    (λ c κs. search rules)  -- same_bytes-requires
+    (λ c κs. search rules)  -- part_of-requires
+    (λ c. (search split-amount, search split-within))  -- returns-then-same_bytes
+    (λ c. (search whole-amount, search whole-within)  -- returns-2
+))
