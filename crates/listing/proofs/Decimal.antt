@@ -1,5 +1,5 @@
 -- Decimal digits: those of a tenth of the number, and the last one.
-use Prim.Native.Nat.{ℕ, suc, ◌+◌, ◌/◌, ◌%◌, ◌<◌, ◌≤◌}
+use Prim.Native.Nat.{ℕ, zero, suc, ◌+◌, ◌/◌, ◌%◌, ◌<◌, ◌≤◌}
 use mathlib.Core.Path.{◌≡◌, refl, sym, ap, ◌∙◌}
 use mathlib.Core.Bool.{Bool, true, false}
 use mathlib.Core.List.{List, [], ◌∷◌, ◌++◌}
@@ -21,6 +21,8 @@ module _ (k n : ℕ) where
 
 -- more digits than the number counts are not used
 enough : (k j n : ℕ) → n < k → n < j → digits k n ≡ digits j n
+enough zero j n h g = absurd (omega (arith, h))
+enough (suc k) zero n h g = absurd (omega (arith, g))
 enough (suc k) (suc j) n h g = by (enough k j (n / 10)) (ltb n 10) refl
   where
     by : (n / 10 < k → n / 10 < j → digits k (n / 10) ≡ digits j (n / 10)) → (b : Bool) → ltb n 10 ≡ b → digits (suc k) n ≡ digits (suc j) n

@@ -8,21 +8,20 @@ pub cover_line_spec : {M : Type 1} → statement M
 cover_line_spec =
     tie.close
     (tie.spec
-    (λ c. search rules)  -- mul-byte-at
-    (λ c κs. search rules)  -- byte-at-requires
-    (λ c. search rules)  -- cast-kind
-    (λ c. search rules)  -- mul-byte-at-2
-    (λ c. search rules)  -- add-byte-at
-    (λ c κs. search rules)  -- byte-at-requires-2
-    (λ c. search rules)  -- cast-high
-    (λ c. search rules)  -- mul-byte-at-3
-    (λ c. search rules)  -- add-byte-at-2
-    (λ c κs. search rules)  -- byte-at-requires-3
-    (λ c. search rules)  -- cast-low
-    (λ c. search rules)  -- slice-aggregate-write-three
-    (λ c. search rules)  -- slice-aggregate-write-three-2
-    (λ c. search rules)  -- mul-write-three
-    (λ c. search rules)  -- add-write-three
-    (λ c κs. search rules)  -- write-three-requires
-    (λ c. search rules)  -- same-length
-    (λ c. search (cover-lined, rules)))  -- returns
+    (λ c. search rules)  -- overflow_mul-k
+    (λ c κs. search rules)  -- byte_at-kind-requires
+    (λ c. search rules)  -- overflow_cast-kind
+    (λ c. search rules)  -- overflow_mul-k-2
+    (λ c. search rules)  -- overflow_add-k
+    (λ c κs. search rules)  -- byte_at-high-requires
+    (λ c. search rules)  -- overflow_cast-high
+    (λ c. search rules)  -- overflow_mul-k-3
+    (λ c. search rules)  -- overflow_add-k-2
+    (λ c κs. search rules)  -- byte_at-low-requires
+    (λ c. search rules)  -- overflow_cast-low
+    (λ c. search rules)  -- overflow_mul-high
+    (λ c. search rules)  -- overflow_add-high
+    (λ c κs. search rules)  -- write_three-requires
+    (λ c. search rules)  -- shape_of-buffer
+    (λ c. search (cover-lined, rules)  -- returns
+))

@@ -8,25 +8,19 @@ pub record_lines_spec : {M : Type 1} → statement M
 record_lines_spec =
     tie.close
     (tie.spec
-    (λ c κs. search rules)  -- byte-at-requires
+    (λ c κs. search rules)  -- byte_at-what-requires
     (λ c κs. search rules)  -- skip-requires
-    (λ c κs. search rules)  -- front-number-requires
+    (λ c κs. search rules)  -- front_number-first-requires
     (λ c κs. search rules)  -- skip-requires-2
-    (λ c κs. search rules)  -- front-number-requires-2
-    (λ c. search rules)  -- slice-aggregate-write-two
-    (λ c. search rules)  -- slice-aggregate-write-two-2
-    (λ c κs. search rules)  -- write-two-requires
-    (λ c. search rules)  -- same-length
-    (λ c. search lines-refused)  -- returns
-    (λ c. search rules)  -- slice-aggregate-write-two-3
-    (λ c. search rules)  -- slice-aggregate-write-two-4
-    (λ c κs. search rules)  -- write-two-requires-2
-    (λ c. search rules)  -- same-length-2
-    (λ c. search lines-rejected)  -- returns-2
-    (λ c. search rules)  -- slice-aggregate-write-three
-    (λ c. search rules)  -- slice-aggregate-write-three-2
-    (λ c κs. search rules)  -- write-three-requires
+    (λ c κs. search rules)  -- front_number-second-requires
+    (λ c κs. search rules)  -- write_two-requires
+    (λ c. search rules)  -- shape_of-buffer-then-what-eq2
+    (λ c. search lines-refused)  -- returns-then-what-eq2
+    (λ c κs. search rules)  -- write_two-requires-then-what-eq1
+    (λ c. search rules)  -- shape_of-buffer-then-what-eq1
+    (λ c. search lines-rejected)  -- returns-then-what-eq1
+    (λ c κs. search rules)  -- write_three-m-requires
     (λ c κs. search rules)  -- skip-requires-3
-    (λ c κs. search rules)  -- cover-lines-requires
-    (λ c. search rules)  -- same-length-3
-    (λ c. search lines-accepted))  -- returns-3
+    (λ c κs. search rules)  -- cover_lines-requires
+    (λ c. search rules)  -- shape_of-buffer
+    (λ c. search lines-accepted))

@@ -8,10 +8,9 @@ pub write_three_spec : {M : Type 1} → statement M
 write_three_spec =
     tie.close
     (tie.spec
-    (λ c κs. search rules)  -- write-both-requires
-    (λ c κs. search rules)  -- write-both-requires-2
-    (λ c. search rules)  -- slice-aggregate-write-both
-    (λ c κs. search rules)  -- write-both-requires-3
-    (λ c κs. search rules)  -- write-byte-requires
-    (λ c. search rules)  -- same-length
-    (λ c. search three-written))  -- returns
+    (λ c κs. search rules)  -- write_both-m-requires
+    (λ c κs. search rules)  -- write_both-k-requires
+    (λ c κs. search rules)  -- write_both-l-requires
+    (λ c κs. search rules)  -- write_byte-requires
+    (λ c. search rules)  -- shape_of-buffer
+    (λ c. search three-written))
