@@ -23,7 +23,7 @@ use contract::numbers::numbers_of;
 use contract::records::write_records;
 use equality::expr_eq;
 use fields::bytes::same_bytes;
-use fundings::ledger::NOT_LISTED;
+use fundings::facts::nothing_known;
 use fundings::token::ledger_funding_token;
 use listing::lines::listing;
 use payout_reserve::payout_reserve;
@@ -33,6 +33,7 @@ use reserve_tokens::reserve::reserve_token;
 use reserves::covering::Reserve;
 use tokens::token::admitted_inflow_token;
 use verdict::file::file_verdict;
+use walking::walk::MOST_FIELDS;
 
 // The verdict on an entry of a file, counted from 0: 0 accepted, 1 rejected, 2 refused, with two numbers beside (Answer in the
 // specs of crates/contract). Where it is accepted its covers are written in front of the lent ones. Demand 2 is `answer`,
@@ -145,8 +146,9 @@ pub extern "C" fn zevdrak_is_reserve_token(file: &[u8], field: &[u8], token: &[u
     if 32768 < file.len() {
         return false;
     }
-    let nothing = [0u16; 1];
-    same_bytes(reserve_token(file, field, &nothing, NOT_LISTED), token)
+    let facts = nothing_known();
+    let mut scratch = [0u16; MOST_FIELDS];
+    same_bytes(reserve_token(file, field, &facts, &mut scratch), token)
 }
 
 // The number of the state field that covers a payout of an entry by itself, all counted from 0; 65,535 where none does, and in

@@ -1,95 +1,59 @@
 // SPDX-License-Identifier: Apache-2.0 OR MIT
 // Computes the listing of each model file in a list of answers, and compares it with the one that stands there.
-ghost use Rattle.std.specs.Prelude.{◌≤◌};
+#![tactic(auto)]
 
-use fields::bytes::{byte_at, keep, same_bytes};
-use libc::{STDIN_FILENO, STDOUT_FILENO};
+ghost use Rattle.std.specs.Prelude.{◌+◌, ◌≤◌, ◌<◌, length};
+
+use fields::bytes::{byte_at, keep, same_bytes, skip};
 use listing::lines::listing;
+use std::io::{self, Read};
 
-// Reads the two bytes of a length, most significant first; 65,536, which no length is, where the input ends.
-fn read_length() -> usize {
-    let mut two = [0u8; 2];
-    if io::read_full(STDIN_FILENO, &mut two) < 2 {
-        return 65536;
-    }
-    byte_at(&two, 0) as usize * 256 + byte_at(&two, 1) as usize
+// 65,536 bytes hold every listing.
+const MOST_WRITTEN: usize = 65536;
+
+// The length at the front of a part of the list: two bytes, most significant first.
+fn length_at(s: &[u8]) -> usize
+    ensures { result < 65536 }
+{
+    byte_at(s, 0) as usize * 256 + byte_at(s, 1) as usize
 }
 
-// Reads n bytes to the front of a buffer, and answers whether they were there.
-fn read_bytes(buffer: &mut [u8], n: usize) -> bool {
-    if buffer.len() < n {
-        return false;
-    }
-    io::read_full(STDIN_FILENO, &mut buffer[..n]) == n
+// The bytes that are counted there.
+fn counted(s: &[u8]) -> &[u8] {
+    keep(skip(s, 2), length_at(s))
+}
+
+// What stands behind them.
+fn behind(s: &[u8]) -> &[u8] {
+    skip(s, 2 + length_at(s))
 }
 
 // Whether a file has this listing.
 fn answers(file: &[u8], expected: &[u8]) -> bool {
-    let mut buffer = [0u8; 65536];
+    let mut buffer = [0u8; MOST_WRITTEN];
     let length = listing(file, &mut buffer);
     same_bytes(keep(&buffer, length), expected)
 }
 
-// Reads a record, a file and its listing, each with its length in front of it, and answers how many differences there are: 0,
-// or 1 where the listing is another or the record is cut off; 2 where there is no record.
-fn replay_one() -> usize
-    ensures { result ≤ 2 }
-{
-    let mut file = [0u8; 32769];
-    let n = read_length();
-    if n == 65536 {
-        return 2;
-    }
-    if !read_bytes(&mut file, n) {
-        return 1;
-    }
-    let mut expected = [0u8; 65535];
-    let m = read_length();
-    if !read_bytes(&mut expected, m) {
-        return 1;
-    }
-    if answers(keep(&file, n), keep(&expected, m)) {
-        return 0;
-    }
-    1
-}
-
-// One more record before the first difference, or none.
-fn one_more(differences: usize) -> usize
-    ensures { result ≤ 1 }
-{
-    if differences == 0 {
-        return 1;
-    }
-    0
-}
-
-// Writes what was counted.
-fn print(count: usize, differences: usize, first: usize) {
-    io::print_decimal(STDOUT_FILENO, count as u64);
-    io::write_all(STDOUT_FILENO, b" answers, ");
-    io::print_decimal(STDOUT_FILENO, differences as u64);
-    io::write_all(STDOUT_FILENO, b" differences\n");
-    if 0 < differences {
-        io::write_all(STDOUT_FILENO, b"first difference: ");
-        io::print_decimal(STDOUT_FILENO, first as u64);
-        io::write_all(STDOUT_FILENO, b"\n");
-    }
-}
-
-// Records are counted from 0, as entries are. A proved loop has to end: after 65,536 records it does.
-fn main() {
-    let mut count = 0;
-    let mut differences = 0;
-    let mut first = 0;
-    while count < 65536 {
-        let found = replay_one();
-        if found == 2 {
+// A record is a file and its listing, each with its length in front of it. Records are counted from 0, as entries are.
+fn main(rt: HostRuntime) -> io::Result<()> {
+    let mut list = Vec::new(rt.alloc());
+    rt.reader().read_to_end(&mut list)?;
+    let mut rest: &[u8] = &list;
+    let mut differences: u64 = 0;
+    let mut count: u64 = 0;
+    for record in 0..1000000u64 {
+        if rest.len() == 0 {
             break;
         }
-        differences += found;
-        first += one_more(differences);
+        let second = behind(rest);
+        if !answers(counted(rest), counted(second)) {
+            println!(rt; "a difference at record {record}")?;
+            differences += 1;
+        }
+        let next = behind(second);
+        rest = next;
         count += 1;
     }
-    print(count, differences, first);
+    println!(rt; "{count} answers, {differences} differences")
 }
