@@ -9,8 +9,7 @@ use borrow.Author.Tests.{lt-leb}
 use lib.Dec.{leb}
 use lib.ListN.{length}
 use Rattle.fields.specs.Field.{whole, length_of}
-use Rattle.fields.proofs.front.is_whole.Statement.{statement}
-use Rattle.fields.proofs.front.is_whole.Tie as tie
+use Rattle.fields.proofs.front.is_whole.Goals as goal
 
 no-head : (s : List ℕ) → length s < 3 → false ≡ whole s
 no-head s h = sym (lt-leb (3 + length_of s) (length s) (omega arith))
@@ -18,11 +17,8 @@ no-head s h = sym (lt-leb (3 + length_of s) (length s) (omega arith))
 whole-read : (s : List ℕ) (n : ℕ) → n ≡ length_of s → leb (3 + n) (length s) ≡ whole s
 whole-read s n e = rw e
 
-pub is_whole_spec : {M : Type 1} → statement M
-is_whole_spec =
-    tie.close
-    (tie.spec
-    (λ c. search no-head)  -- returns
-    (λ c κs. search rules)  -- length-of-requires
-    (λ c. search rules)  -- add-result
-    (λ c. search whole-read))  -- returns-2
+pub returns-then-s-lt3 : goal.returns-then-s-lt3
+returns-then-s-lt3 c = search no-head
+
+pub returns : goal.returns
+returns c = search whole-read

@@ -5,8 +5,7 @@ use Prim.Native.Nat.{ℕ}
 use borrow.Author.Rules.{rules}
 use lib.ListN.{take, drop}
 use Rattle.fields.specs.Field.{fields, front, nth, part, parts, place_of, sizes}
-use Rattle.fields.proofs.front.part_of.Statement.{statement}
-use Rattle.fields.proofs.front.part_of.Tie as tie
+use Rattle.fields.proofs.front.part_of.Goals as goal
 
 module _ (s x y : List ℕ) (n : ℕ) (e : fields x ≡ parts (front s)) where
   part-read : front y ≡ nth n (fields x) → front y ≡ part n (front s)
@@ -16,10 +15,8 @@ module _ (s x y : List ℕ) (n : ℕ) (e : fields x ≡ parts (front s)) where
       y ≡ drop (place_of n (parts (front s))) (take (sizes (parts (front s))) (drop 3 s))
   part-shown f g = rw (← f, ← e) g
 
-pub part_of_spec : {M : Type 1} → statement M
-part_of_spec =
-    tie.close
-    (tie.spec
-    (λ c κs. search rules)  -- parts-of-requires
-    (λ c κs. search rules)  -- nth-field-requires
-    (λ c. (search part-read, search part-shown)))  -- returns
+pub returns-clause-reads : goal.returns-clause-reads
+returns-clause-reads c = search part-read
+
+pub returns-clause-shows : goal.returns-clause-shows
+returns-clause-shows c = search part-shown

@@ -5,17 +5,10 @@ use Prim.Native.Nat.{ℕ}
 use borrow.Author.Rules.{rules}
 use lib.ListN.{take, drop}
 use Rattle.fields.specs.Field.{length_of, content}
-use Rattle.fields.proofs.front.front_content.Statement.{statement}
-use Rattle.fields.proofs.front.front_content.Tie as tie
+use Rattle.fields.proofs.front.front_content.Goals as goal
 
 content-read : (s x y : List ℕ) (n : ℕ) → x ≡ drop 3 s → n ≡ length_of s → y ≡ take n x → y ≡ content s
 content-read s x y n e f g = rw (← e, ← f) g
 
-pub front_content_spec : {M : Type 1} → statement M
-front_content_spec =
-    tie.close
-    (tie.spec
-    (λ c κs. search rules)  -- skip-requires
-    (λ c κs. search rules)  -- length-of-requires
-    (λ c κs. search rules)  -- keep-requires
-    (λ c. search content-read))  -- returns
+pub returns : goal.returns
+returns c = search content-read

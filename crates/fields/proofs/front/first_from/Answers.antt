@@ -12,8 +12,7 @@ use Rattle.fields.specs.Field.{whole, tag_of, after, from}
 use Rattle.fields.proofs.Reading.{after_less}
 use Rattle.fields.proofs.Parts.{tag-front}
 use Rattle.fields.proofs.Rows.{from_end, from-here, from_on}
-use Rattle.fields.proofs.front.first_from.Statement.{statement}
-use Rattle.fields.proofs.front.first_from.Tie as tie
+use Rattle.fields.proofs.front.first_from.Goals as goal
 
 module _ (s : List ℕ) (low high : ℕ) (t : List ℕ) (i : from low high t ≡ from low high s) where
   module _ (w : whole t ≡ true) (g : ℕ) (e : g ≡ tag_of t) where
@@ -26,18 +25,17 @@ module _ (s : List ℕ) (low high : ℕ) (t : List ℕ) (i : from low high t ≡
   done : whole t ≡ false → (u : List ℕ) → u ≡ drop (length t) t → u ≡ from low high s
   done w u f = f ∙ drop-length t ∙ sym (from_end low high t w) ∙ i
 
-pub first_from_spec : {M : Type 1} → statement M
-first_from_spec =
-    tie.close
-    (tie.spec
-    (λ s low high t₀ t. from low high t ≡ from low high s)  -- Inv-loop
-    (λ s low high t₀ t. length t)  -- μ-loop
-    (λ c. refl)  -- loop-holds
-    (λ c κs. search rules)  -- is-whole-requires
-    (λ c κs. search rules)  -- front-tag-requires
-    (λ c. search (here, told))  -- returns
-    (λ c κs. search rules)  -- after-front-requires
-    (λ c. search (after_less, told))  -- loop-less
-    (λ c. search (on, told))  -- loop-again
-    (λ c κs. search rules)  -- skip-requires
-    (λ c. search (done, told)))  -- returns-2
+pub loop-tag-init : goal.loop-tag-init
+loop-tag-init c = refl
+
+pub returns-then-low-tag : goal.returns-then-low-tag
+returns-then-low-tag c = search (here, told)
+
+pub loop-tag-smaller : goal.loop-tag-smaller
+loop-tag-smaller c = search (after_less, told)
+
+pub loop-tag-preserved : goal.loop-tag-preserved
+loop-tag-preserved c = search (on, told)
+
+pub returns : goal.returns
+returns c = search (done, told)

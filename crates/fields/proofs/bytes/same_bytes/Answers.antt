@@ -1,0 +1,40 @@
+-- Equal up to i, so what is left decides; texts of different lengths differ somewhere.
+use mathlib.Core.Path.{◌≡◌, refl}
+use mathlib.Core.Bool.{true, false}
+use mathlib.Core.List.{List, ◌∷◌}
+use Prim.Native.Nat.{ℕ, ◌+◌, ◌-◌, ◌≤◌, ◌<◌}
+use native.Mathlib.Omega.{arith}
+use borrow.Author.Tests.{eq-eqb, ne_eqb}
+use lib.ListN.{length, get_or, drop, drop_of_length-le}
+use Rattle.laws.specs.Texts.{sameBytes}
+use Rattle.laws.proofs.Slices.{drop-step}
+use Rattle.laws.proofs.Texts.{lengths_differ}
+use Rattle.fields.proofs.bytes.same_bytes.Invariants.{agree-none, differ, agree-one, agree-all}
+use Rattle.fields.proofs.bytes.same_bytes.Goals as goal
+
+pub returns-then-a-b : goal.returns-then-a-b
+returns-then-a-b c = search lengths_differ
+
+pub loop-i-init : goal.loop-i-init
+loop-i-init c = search agree-none
+
+pub bounds-a-i : goal.bounds-a-i
+bounds-a-i c = omega arith
+
+pub bounds-b-i : goal.bounds-b-i
+bounds-b-i c = omega arith
+
+pub returns-then-a-i : goal.returns-then-a-i
+returns-then-a-i c = search differ
+
+pub overflow_add-i : goal.overflow_add-i
+overflow_add-i c = omega arith
+
+pub loop-i-smaller : goal.loop-i-smaller
+loop-i-smaller c = omega arith
+
+pub loop-i-preserved : goal.loop-i-preserved
+loop-i-preserved c = search agree-one
+
+pub returns : goal.returns
+returns c = search agree-all

@@ -1,0 +1,31 @@
+-- t starts with the i-th field of the range; the next is the first behind it.
+use mathlib.Core.Path.{◌≡◌, sym, ◌∙◌}
+use mathlib.Core.List.{List, []}
+use Prim.Native.Nat.{ℕ, ◌+◌, ◌-◌, ◌≤◌, ◌<◌}
+use native.Mathlib.Omega.{arith}
+use native.Mathlib.Numerals.{add-one}
+use borrow.Author.Rules.{rules}
+use lib.ListN.{length}
+use Rattle.laws.proofs.Lists.{no-elements}
+use Rattle.fields.specs.Field.{after, from, fromNth}
+use Rattle.fields.proofs.Rows.{nth_end}
+use Rattle.fields.proofs.front.nth_from.Invariants.{passed_none, passed-one, passed-all, passed-end}
+use Rattle.fields.proofs.front.nth_from.Goals as goal
+
+pub loop-passed-init : goal.loop-passed-init
+loop-passed-init c = search passed_none
+
+pub returns-then-t-eq0 : goal.returns-then-t-eq0
+returns-then-t-eq0 c = search passed-end
+
+pub overflow_add-passed : goal.overflow_add-passed
+overflow_add-passed c = omega arith
+
+pub loop-passed-smaller : goal.loop-passed-smaller
+loop-passed-smaller c = omega arith
+
+pub loop-passed-preserved : goal.loop-passed-preserved
+loop-passed-preserved c = search passed-one
+
+pub returns : goal.returns
+returns c = search passed-all

@@ -1,0 +1,42 @@
+-- t starts with the i-th field of the range; the next is the first behind it.
+use mathlib.Core.Path.{◌≡◌, sym, ◌∙◌}
+use mathlib.Core.List.{List, []}
+use Prim.Native.Nat.{ℕ, ◌+◌, ◌-◌, ◌≤◌, ◌<◌}
+use native.Mathlib.Omega.{arith}
+use native.Mathlib.Numerals.{add-one}
+use borrow.Author.Rules.{rules}
+use lib.ListN.{length}
+use Rattle.laws.proofs.Lists.{no-elements}
+use Rattle.fields.specs.Field.{after, from, fromNth}
+use Rattle.fields.proofs.Rows.{nth_end}
+use Rattle.fields.proofs.front.nth_from.Given as goal
+
+pub record Passed (s : List ℕ) (low high n : ℕ) (t : List ℕ) (i : ℕ) : Type 0 where
+  pub within : i ≤ n
+  pub here : t ≡ fromNth low high i s
+
+module _ (s : List ℕ) (low high n : ℕ) where
+  pub passed_none : (t : List ℕ) → t ≡ from low high s → Passed s low high n t 0
+  unfolding fromNth
+  passed_none t e = record { within = omega arith; here = e }
+
+  module _ (t : List ℕ) (i : ℕ) (v : Passed s low high n t i) where
+    pub passed-one : i < n → (x u : List ℕ) → x ≡ after t → u ≡ from low high x → Passed s low high n u (i + 1)
+    unfolding fromNth
+    passed-one h x u e f = record { within = omega arith; here = rw (add-one, ← v.here, ← e) f }
+
+    pub passed-all : n ≤ i → t ≡ fromNth low high n s
+    passed-all h = let e : i ≡ n = omega arith in rw (← e) v.here
+
+    -- behind the end there is nothing, however far
+    pub passed-end : i < n → length t ≡ 0 → t ≡ fromNth low high n s
+    passed-end h e =
+        let z : t ≡ [] = no-elements t e in
+        let p : i + (n - i) ≡ n = omega arith in
+        z ∙ sym (rw p at (nth_end low high (n - i) i s (sym v.here ∙ z)))
+
+abbrev pub invariant-loop-passed : goal.invariant-loop-passed
+invariant-loop-passed l = Passed l.s l.low l.high l.n l.t l.passed
+
+abbrev pub decreases-loop-passed : goal.decreases-loop-passed
+decreases-loop-passed l = l.n - l.passed
