@@ -1,10 +1,5 @@
 -- A search through the fields that stand at a table's places: what the table reads back as decides.
-use Prim.Native.Nat.{ℕ, ◌+◌, ◌<◌}
-use mathlib.Core.Path.{◌≡◌, sym, ◌∙◌}
-use mathlib.Core.Bool.{Bool, true, false}
-use mathlib.Core.List.{List}
-use native.Mathlib.Omega.{arith}
-use lib.ListN.{length, get_or, drop}
+use Rattle.std.proofs.Common.{ℕ, ◌+◌, ◌<◌, ◌≡◌, sym, ◌∙◌, Bool, true, false, List, arith, length, get_or, drop}
 use lib.Seq.{take-length}
 use Rattle.laws.specs.Lists.{any}
 use Rattle.laws.proofs.Lists.{any-map}

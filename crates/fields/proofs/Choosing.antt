@@ -1,10 +1,5 @@
 -- The first field of a range of tags that passes a test: those that fail are passed over, and the others are still ahead.
-use Prim.Native.Nat.{ℕ, ◌≤◌}
-use mathlib.Core.Path.{◌≡◌, ap, ◌∙◌}
-use mathlib.Core.Bool.{Bool, true, false, cond}
-use mathlib.Core.List.{List, [], ◌∷◌}
-use native.Mathlib.Omega.{arith}
-use lib.ListN.{length}
+use Rattle.std.proofs.Common.{ℕ, ◌≤◌, ◌≡◌, ap, ◌∙◌, Bool, true, false, cond, List, [], ◌∷◌, arith, length}
 use Rattle.laws.specs.Lists.{filter}
 use Rattle.fields.specs.Field.{Field, fields, whole, after, front, from, fieldsFrom}
 use Rattle.fields.proofs.Rows.{ahead, from_row, from-shorter, from_less}

@@ -1,14 +1,6 @@
 -- The tree's bytes are the file's bytes again: nothing is lost in reading.
-use Prim.Native.Nat.{ℕ, ◌+◌, ◌*◌, ◌/◌, ◌%◌, ◌≤◌, ◌<◌}
-use mathlib.Core.Path.{◌≡◌, refl, sym, ◌∙◌}
-use mathlib.Core.Bool.{Bool, true, false, cond}
-use mathlib.Core.List.{List, [], ◌∷◌, append-nil}
-use native.Mathlib.Omega.{arith}
-use native.Mathlib.Nat.{zero-add, add-zero}
-use borrow.Author.Tests.{leb-true, leb-false}
-use lib.Dec.{leb}
-use lib.ListN.{length, get_or, take, drop, length-take, get_or-eq_default, take-append-drop}
-use lib.Seq.{get_or-take, get_or-drop, drop-drop, drop-cons}
+use Rattle.std.proofs.Common.{ℕ, ◌+◌, ◌*◌, ◌/◌, ◌%◌, ◌≤◌, ◌<◌, ◌≡◌, refl, sym, ◌∙◌, Bool, true, false, cond, List, [], ◌∷◌, append-nil, arith, zero-add, add-zero, leb-true, leb-false, leb, length, get_or, take, drop, length-take, take-append-drop, get_or-take, get_or-drop, drop-drop, drop-cons}
+use lib.ListN.{get_or-eq_default}
 use Rattle.tags.specs.Tag.{composite}
 use Rattle.fields.specs.Field.{fields, tag_of, length_of, whole, content, after, front, sizes, encode, encodes}
 use Rattle.fields.specs.Field.Field.{field}

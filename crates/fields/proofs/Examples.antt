@@ -1,7 +1,5 @@
 -- The definitions computed on examples: what is whole, what is cut, what nests, and where it stands.
-use Prim.Native.Nat.{ℕ}
-use mathlib.Core.Path.{◌≡◌, refl}
-use mathlib.Core.List.{List, [], ◌∷◌, ◌++◌, map}
+use Rattle.std.proofs.Common.{ℕ, ◌≡◌, refl, List, [], ◌∷◌, ◌++◌, map}
 use Rattle.tags.specs.Tag.{composite}
 use Rattle.fields.specs.Field.{Field, fields, fieldsTo, nth, front, part, nothing, size, sizes, place_of, placed, encode, encodes}
 use Rattle.fields.specs.Field.Field.{field}

@@ -1,13 +1,7 @@
 -- A part of the file that starts anywhere reads as the field that stands there: fields inside a field's content are
 -- the fields of the file at their places.
-use Prim.Native.Nat.{ℕ, ◌+◌, ◌-◌, ◌≤◌, min}
-use mathlib.Core.Path.{◌≡◌, refl, sym, ap, ◌∙◌}
-use mathlib.Core.Bool.{true}
-use mathlib.Core.List.{List}
-use native.Mathlib.Omega.{arith}
-use borrow.Author.Tests.{leb-true, le-leb}
-use lib.ListN.{length, take, drop, length-take, length-drop, take-append-drop}
-use lib.Seq.{get_or-take, take-append-le, drop-append-le, drop-drop}
+use Rattle.std.proofs.Common.{ℕ, ◌+◌, ◌-◌, ◌≤◌, min, ◌≡◌, refl, sym, ap, ◌∙◌, true, List, arith, leb-true, le-leb, length, take, drop, length-take, length-drop, take-append-drop, get_or-take, drop-drop}
+use lib.Seq.{take-append-le, drop-append-le}
 use Rattle.laws.proofs.Lists.{Every}
 use Rattle.laws.proofs.Slices.{drop-take}
 use Rattle.fields.specs.Field.{Placed, fields, tag_of, length_of, whole, content, after, front, parts, size, sizes, placed, placedParts}

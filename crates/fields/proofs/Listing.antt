@@ -1,14 +1,7 @@
 -- Listing into a table, down into a field and along a row of fields: what is left is shorter, and whoever lists it has
 -- listed all.
-use Prim.Native.Nat.{ℕ, ◌+◌, ◌-◌, ◌*◌, ◌^◌, ◌≤◌, ◌<◌}
-use mathlib.Core.Path.{◌≡◌, refl, ◌∙◌}
-use mathlib.Core.Bool.{Bool, true, false, not, cond}
-use mathlib.Core.List.{List, [], ◌∷◌, ◌++◌}
-use native.Mathlib.Omega.{arith}
-use borrow.Author.Tests.{leb-true, not-false}
-use mir.Syntax.{w64}
-use mir.Val.{Fits}
-use lib.ListN.{length, take, drop, length-take, length-drop}
+use Rattle.std.proofs.Common.{ℕ, ◌+◌, ◌-◌, ◌*◌, ◌^◌, ◌≤◌, ◌<◌, ◌≡◌, refl, ◌∙◌, Bool, true, false, not, cond, List, [], ◌∷◌, ◌++◌, arith, leb-true, w64, Fits, length, take, drop, length-take, length-drop}
+use borrow.Author.Tests.{not-false}
 use Rattle.laws.proofs.Truths.{chosen}
 use Rattle.fields.specs.Field.{Field, Fields, fields, length_of, whole, after, front, tag, parts, size, sizes}
 use Rattle.fields.specs.Field.Fields.{end, next}

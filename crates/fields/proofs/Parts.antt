@@ -1,9 +1,5 @@
 -- The tag, the text and the parts of the field at the front of s, by what the readers test.
-use Prim.Native.Nat.{ℕ}
-use mathlib.Core.Path.{◌≡◌, refl, sym, ◌∙◌}
-use mathlib.Core.Bool.{Bool, true, false, cond, not, ◌&&◌}
-use mathlib.Core.List.{List, []}
-use lib.ListN.{length, take, drop}
+use Rattle.std.proofs.Common.{ℕ, ◌≡◌, refl, sym, ◌∙◌, Bool, true, false, cond, not, ◌&&◌, List, [], length, take, drop}
 use Rattle.laws.proofs.Truths.{and_left}
 use Rattle.tags.specs.Tag.{composite}
 use Rattle.fields.specs.Field.{Field, Fields, fields, tag_of, whole, content, front, tag, text, parts, nothing, sizes}

@@ -1,12 +1,6 @@
 -- Sizes and places: the tree of s tells where each of its fields stands in s.
-use Prim.Native.Nat.{ℕ, zero, suc, ◌+◌, ◌-◌, ◌≤◌, ◌<◌}
-use mathlib.Core.Path.{◌≡◌, refl, ◌∙◌}
-use mathlib.Core.Bool.{Bool, true, false, cond}
-use mathlib.Core.List.{List, [], ◌∷◌}
-use native.Mathlib.Omega.{arith}
-use borrow.Author.Tests.{leb-true}
-use lib.ListN.{length, drop, length-drop, length-take}
-use lib.Seq.{drop-drop, drop-nil, drop-length}
+use Rattle.std.proofs.Common.{ℕ, zero, suc, ◌+◌, ◌-◌, ◌≤◌, ◌<◌, ◌≡◌, refl, ◌∙◌, Bool, true, false, cond, List, [], ◌∷◌, arith, leb-true, length, drop, length-drop, length-take, drop-drop}
+use lib.Seq.{drop-nil, drop-length}
 use Rattle.laws.specs.Lists.{filter}
 use Rattle.laws.proofs.Lists.{no-elements}
 use Rattle.tags.specs.Tag.{composite, between}

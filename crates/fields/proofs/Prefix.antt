@@ -1,12 +1,6 @@
 -- The fields of the first bytes of a file: cut behind a field, they are the first fields of the file.
-use Prim.Native.Nat.{ℕ, ◌+◌, ◌≤◌}
-use mathlib.Core.Path.{◌≡◌, refl, sym, ap, ap₂, ◌∙◌}
-use mathlib.Core.Bool.{true, false, cond}
-use mathlib.Core.List.{List, [], ◌∷◌, ◌++◌}
-use native.Mathlib.Omega.{arith}
-use borrow.Author.Tests.{leb-true, le-leb}
-use lib.ListN.{length, take, drop, length-take, drop_of_length-le}
-use lib.Seq.{take-add, take-append_seam, drop-append-le, get_or-take}
+use Rattle.std.proofs.Common.{ℕ, ◌+◌, ◌≤◌, ◌≡◌, refl, sym, ap, ap₂, ◌∙◌, true, false, cond, List, [], ◌∷◌, ◌++◌, arith, leb-true, le-leb, length, take, drop, length-take, drop_of_length-le, take-add, get_or-take}
+use lib.Seq.{take-append_seam, drop-append-le}
 use Rattle.laws.specs.Lists.{filter}
 use Rattle.laws.proofs.Lists.{filter-append}
 use Rattle.tags.specs.Tag.{between}

@@ -1,11 +1,6 @@
 -- Reading unfolds by one field, and goes on with fewer bytes: more steps than there are bytes change nothing.
-use Prim.Native.Nat.{ℕ, zero, suc, ◌+◌, ◌*◌, ◌≤◌, ◌<◌}
-use mathlib.Core.Path.{◌≡◌, refl, ap₂, sym, ◌∙◌}
-use mathlib.Core.List.{List, []}
-use mathlib.Core.Bool.{Bool, true, false, cond}
-use native.Mathlib.Omega.{arith}
-use borrow.Author.Tests.{lt-leb, leb-true, leb-false}
-use lib.ListN.{length, length-take, length-drop, drop_of_length-le}
+use Rattle.std.proofs.Common.{ℕ, zero, suc, ◌+◌, ◌*◌, ◌≤◌, ◌<◌, ◌≡◌, refl, ap₂, sym, ◌∙◌, List, [], Bool, true, false, cond, arith, leb-true, leb-false, length, length-take, length-drop, drop_of_length-le}
+use borrow.Author.Tests.{lt-leb}
 use Rattle.fields.specs.Field.{Field, Fields, fields, fieldsTo, fieldWith, tag_of, length_of, whole, content, after, front, nth, nothing}
 use Rattle.fields.specs.Field.Field.{field}
 use Rattle.fields.specs.Field.Fields.{end, next}

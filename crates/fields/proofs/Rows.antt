@@ -1,13 +1,6 @@
 -- Fields in a row, and the first of them whose tag is in a range: the rest of the row is behind it.
-use Prim.Native.Nat.{ℕ, zero, suc, ◌+◌, ◌-◌, ◌≤◌, ◌<◌}
-use mathlib.Core.Path.{◌≡◌, refl, sym, ap, ◌∙◌}
-use mathlib.Core.Bool.{Bool, true, false, cond}
-use mathlib.Core.List.{List, [], ◌∷◌, map}
-use native.Mathlib.Omega.{arith}
-use native.Mathlib.Nat.{add-zero, add-suc}
-use borrow.Author.Tests.{leb-true}
-use lib.ListN.{length, get_or, drop, length-drop}
-use lib.Seq.{drop-drop, drop-length, get_or-drop}
+use Rattle.std.proofs.Common.{ℕ, zero, suc, ◌+◌, ◌-◌, ◌≤◌, ◌<◌, ◌≡◌, refl, sym, ap, ◌∙◌, Bool, true, false, cond, List, [], ◌∷◌, map, arith, add-zero, add-suc, leb-true, length, get_or, drop, length-drop, drop-drop, get_or-drop}
+use lib.Seq.{drop-length}
 use Rattle.laws.specs.Lists.{filter}
 use Rattle.laws.proofs.Slices.{drop-one}
 use Rattle.tags.specs.Tag.{between}

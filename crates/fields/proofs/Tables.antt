@@ -1,12 +1,7 @@
 -- Writing into a table: what is written first and what is written then is written.
-use Prim.Native.Nat.{ℕ, ◌+◌, ◌≤◌, ◌<◌}
-use mathlib.Core.Path.{◌≡◌, refl, sym, ◌∙◌}
-use mathlib.Core.Bool.{Bool, true, false, not, cond}
-use mathlib.Core.List.{List, [], ◌∷◌, ◌++◌}
-use native.Mathlib.Omega.{arith}
+use Rattle.std.proofs.Common.{ℕ, ◌+◌, ◌≤◌, ◌<◌, ◌≡◌, refl, sym, ◌∙◌, Bool, true, false, not, cond, List, [], ◌∷◌, ◌++◌, arith, length, set, take, drop, length-append, take_at}
 use borrow.Author.Tests.{not-true, not-false}
-use lib.ListN.{length, set, take, drop, length-append}
-use lib.Seq.{set_out, sets-eq, take_at}
+use lib.Seq.{set_out, sets-eq}
 use Rattle.laws.proofs.Tables.{sets-append}
 use Rattle.fields.specs.Table.{Listed}
 

@@ -1,8 +1,5 @@
 -- What is left of a list of bytes is what stands behind those that are missing.
-use Prim.Native.Nat.{ℕ, ◌+◌, ◌-◌}
-use mathlib.Core.Path.{◌≡◌}
-use mathlib.Core.List.{List}
-use lib.ListN.{length, drop}
+use Rattle.std.proofs.Common.{ℕ, ◌+◌, ◌-◌, ◌≡◌, List, length, drop}
 use Rattle.laws.proofs.Slices.{tail_of, tail-behind}
 use Rattle.fields.specs.Field.{fields, length_of, after, placeFrom, from}
 

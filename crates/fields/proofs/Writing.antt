@@ -1,8 +1,6 @@
 -- Model files written by hand, for examples.
-use Prim.Native.Nat.{ℕ, zero, suc, ◌/◌, ◌%◌}
+use Rattle.std.proofs.Common.{ℕ, zero, suc, ◌/◌, ◌%◌, List, [], ◌∷◌, ◌++◌, length}
 use Prim.Native.String.{String}
-use mathlib.Core.List.{List, [], ◌∷◌, ◌++◌}
-use lib.ListN.{length}
 use Rattle.laws.specs.Texts.{bytes}
 use Rattle.tags.specs.Tag.{Name, TypeName, Integer, Identifier, Not}
 

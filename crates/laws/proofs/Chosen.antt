@@ -1,15 +1,9 @@
 -- The elements whose numbers are marked: the first of them that passes a test is found by its number, and to clear its mark is
 -- to take it out.
-use Prim.Native.Nat.{ℕ, zero, suc, ◌≤◌, ◌<◌}
-use mathlib.Core.Path.{◌≡◌, refl, sym, ap, ◌∙◌}
-use mathlib.Core.Bool.{Bool, true, false, cond, not, ◌&&◌, ◌||◌}
-use mathlib.Core.List.{List, [], ◌∷◌}
+use Rattle.std.proofs.Common.{ℕ, zero, suc, ◌≤◌, ◌<◌, ◌≡◌, refl, sym, ap, ◌∙◌, Bool, true, false, cond, not, ◌&&◌, ◌||◌, List, [], ◌∷◌, arith, ltb-true, ltb-false, ltb, length, get_or, set, get_or-set_same}
 use mathlib.Core.Option.{none, some}
-use native.Mathlib.Omega.{arith}
-use borrow.Author.Tests.{ltb-true, ltb-false}
-use lib.Dec.{ltb}
-use lib.ListN.{length, get_or, set, get_or-eq_default}
-use lib.Seq.{set_out, get_or-set_same}
+use lib.ListN.{get_or-eq_default}
+use lib.Seq.{set_out}
 use Rattle.laws.specs.Lists.{any, find, removeFirst}
 use Rattle.laws.specs.Numbers.{chosenBy, firstFrom, downFrom}
 use Rattle.laws.proofs.Truths.{or_swap}

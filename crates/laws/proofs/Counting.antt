@@ -1,11 +1,6 @@
 -- How many of a list pass a test: of numbered things at most one has a given number.
-use Prim.Native.Nat.{ℕ, zero, suc, ◌+◌, ◌≤◌, ◌<◌}
-use native.Mathlib.Omega.{arith}
-use mathlib.Core.Path.{◌≡◌, refl, ap}
-use mathlib.Core.Bool.{Bool, true, false, cond}
-use mathlib.Core.List.{List, [], ◌∷◌, ◌++◌, map}
+use Rattle.std.proofs.Common.{ℕ, zero, suc, ◌+◌, ◌≤◌, ◌<◌, arith, ◌≡◌, refl, ap, Bool, true, false, cond, List, [], ◌∷◌, ◌++◌, map, length, get_or}
 use mathlib.Core.Option.{some}
-use lib.ListN.{length, get_or}
 use Rattle.laws.specs.Lists.{filter, find, removeFirst, numbered}
 
 -- a test as a number

@@ -1,11 +1,8 @@
 -- The first of a list that passes a test, and the list without it: what is left and the one that was found are all there was.
-use Prim.Native.Nat.{zero, suc, ◌≤◌}
-use mathlib.Core.Path.{◌≡◌, refl}
-use mathlib.Core.Bool.{Bool, true, false, cond, ◌||◌, false≢true}
-use mathlib.Core.List.{List, [], ◌∷◌}
+use Rattle.std.proofs.Common.{zero, suc, ◌≤◌, ◌≡◌, refl, Bool, true, false, cond, ◌||◌, List, [], ◌∷◌, arith, length, drop}
+use mathlib.Core.Bool.{false≢true}
 use mathlib.Core.Option.{none, some}
-use native.Mathlib.Omega.{arith}
-use lib.ListN.{length, get_elem?, drop}
+use lib.ListN.{get_elem?}
 use Rattle.laws.specs.Lists.{any, filter, find, removeFirst, position}
 use Rattle.laws.proofs.Truths.{or_right, or_swap}
 use Rattle.laws.proofs.Lists.{Every}

@@ -1,10 +1,6 @@
 -- Laws of lists that are joined, mapped, filtered and tested, by induction on the list and by cases on a test.
-use Prim.Native.Nat.{ℕ, zero, suc, ◌≤◌, ◌<◌}
-use mathlib.Core.Path.{◌≡◌, refl, sym, ◌∙◌}
-use mathlib.Core.Bool.{Bool, true, false, cond, ◌&&◌, ◌||◌}
-use mathlib.Core.List.{List, [], ◌∷◌, ◌++◌, map, flat_map, append-nil, append_assoc}
-use native.Mathlib.Omega.{arith}
-use lib.ListN.{length, get_or, take}
+use Rattle.std.proofs.Common.{ℕ, zero, suc, ◌≤◌, ◌<◌, ◌≡◌, refl, sym, ◌∙◌, Bool, true, false, cond, ◌&&◌, ◌||◌, List, [], ◌∷◌, ◌++◌, map, append-nil, append_assoc, arith, length, get_or, take}
+use mathlib.Core.List.{flat_map}
 use Rattle.laws.specs.Lists.{any, all, filter}
 use Rattle.laws.proofs.Truths.{or_left, or_right, either, chosen}
 

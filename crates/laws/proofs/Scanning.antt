@@ -1,8 +1,5 @@
 -- A search by number: none of the numbers that were passed is what is sought, so those that are left decide.
-use Prim.Native.Nat.{ℕ, suc, ◌+◌, ◌-◌, ◌≤◌, ◌<◌}
-use mathlib.Core.Path.{◌≡◌, ◌∙◌}
-use mathlib.Core.Bool.{Bool, true, false}
-use native.Mathlib.Omega.{arith}
+use Rattle.std.proofs.Common.{ℕ, suc, ◌+◌, ◌-◌, ◌≤◌, ◌<◌, ◌≡◌, ◌∙◌, Bool, true, false, arith}
 use Rattle.laws.specs.Numbers.{firstFrom}
 
 pub record Scanning (p : ℕ → Bool) (n i : ℕ) : Type 0 where

@@ -1,11 +1,5 @@
 -- A search through the first n numbers of a table: none that was passed is what is sought, so those that are left decide.
-use Prim.Native.Nat.{ℕ, ◌+◌, ◌≤◌, ◌<◌}
-use mathlib.Core.Path.{◌≡◌}
-use mathlib.Core.Bool.{Bool, true, false}
-use mathlib.Core.List.{List}
-use native.Mathlib.Omega.{arith}
-use lib.ListN.{length, get_or, take, drop, drop_of_length-le}
-use lib.Seq.{length-take-le}
+use Rattle.std.proofs.Common.{ℕ, ◌+◌, ◌≤◌, ◌<◌, ◌≡◌, Bool, true, false, List, arith, length, get_or, take, drop, drop_of_length-le, length-take-le}
 use Rattle.laws.specs.Lists.{any}
 use Rattle.laws.proofs.Slices.{step-within}
 

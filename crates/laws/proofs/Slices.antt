@@ -1,15 +1,8 @@
 -- Laws of a part of a list, also where it is read past its end: in the form in which the readers ask them, and cut twice.
-use mathlib.Core.Path.{◌≡◌, refl, sym, ap, ◌∙◌}
-use mathlib.Core.Bool.{Bool, true, false}
-use mathlib.Core.List.{List, [], ◌∷◌, ◌++◌}
-use Prim.Native.Nat.{ℕ, zero, suc, ◌+◌, ◌-◌, ◌≤◌, ◌<◌}
-use native.Mathlib.Omega.{arith}
-use native.Mathlib.Nat.{le_of_lt, sub-zero, zero-sub, suc-sub-suc}
-use native.Mathlib.Numerals.{add-one}
-use borrow.Author.Tests.{leb-true, leb-false}
-use lib.Dec.{leb}
-use lib.ListN.{length, get_or, take, drop, length-drop, drop_of_length-le, get_or-eq_default}
-use lib.Seq.{take_all, take-nil, length-take-le, drop-cons, drop-drop, drop-length, get_or-take, get_or-append-add}
+use Rattle.std.proofs.Common.{◌≡◌, refl, sym, ap, ◌∙◌, Bool, true, false, List, [], ◌∷◌, ◌++◌, ℕ, zero, suc, ◌+◌, ◌-◌, ◌≤◌, ◌<◌, arith, le_of_lt, add-one, leb-true, leb-false, leb, length, get_or, take, drop, length-drop, drop_of_length-le, take_all, length-take-le, drop-cons, drop-drop, get_or-take, get_or-append-add}
+use native.Mathlib.Nat.{sub-zero, zero-sub, suc-sub-suc}
+use lib.ListN.{get_or-eq_default}
+use lib.Seq.{take-nil, drop-length}
 
 pub get_d_past : (l : List ℕ) (i : ℕ) → length l ≤ i → 0 ≡ get_or l i 0
 get_d_past l i h = sym (get_or-eq_default l 0 h)

@@ -1,11 +1,6 @@
 -- Numbers that are written into a table one after the other: what is written first and what is written then is written.
-use Prim.Native.Nat.{ℕ, zero, suc, ◌+◌, ◌≤◌, ◌<◌}
-use mathlib.Core.Path.{◌≡◌, refl, ap, ◌∙◌}
-use mathlib.Core.List.{List, [], ◌∷◌, ◌++◌}
-use native.Mathlib.Omega.{arith}
-use native.Mathlib.Nat.{add-zero, suc-add, add-suc}
-use lib.ListN.{length, get_or, set, replicate, length-set}
-use lib.Seq.{sets, set_out, get_or-set_same, get_or-set_other}
+use Rattle.std.proofs.Common.{ℕ, zero, suc, ◌+◌, ◌≤◌, ◌<◌, ◌≡◌, refl, ap, ◌∙◌, List, [], ◌∷◌, ◌++◌, arith, add-zero, suc-add, add-suc, length, get_or, set, replicate, length-set, get_or-set_same, get_or-set_other}
+use lib.Seq.{sets, set_out}
 
 pub sets-append : (ks js t : List ℕ) (n : ℕ) → sets (sets t n ks) (n + length ks) js ≡ sets t n (ks ++ js)
 sets-append [] js t n = rw add-zero

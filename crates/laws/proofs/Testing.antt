@@ -1,11 +1,6 @@
 -- Whether all numbers of a list pass a test: those that were passed over do, so those that are left decide.
-use Prim.Native.Nat.{ℕ, ◌+◌, ◌≤◌, ◌<◌}
-use mathlib.Core.Path.{◌≡◌}
-use mathlib.Core.Bool.{Bool, true, false, not}
-use mathlib.Core.List.{List}
-use native.Mathlib.Omega.{arith}
+use Rattle.std.proofs.Common.{ℕ, ◌+◌, ◌≤◌, ◌<◌, ◌≡◌, Bool, true, false, not, List, arith, length, get_or, drop, drop_of_length-le}
 use borrow.Author.Tests.{not-true, not-false}
-use lib.ListN.{length, get_or, drop, drop_of_length-le}
 use Rattle.laws.specs.Lists.{all}
 use Rattle.laws.proofs.Slices.{drop-step}
 

@@ -1,12 +1,6 @@
 -- Texts compare as the same exactly where they are one list: each byte is compared, and so are the ends.
-use Prim.Native.Nat.{ℕ, suc}
-use mathlib.Core.Path.{◌≡◌, refl, sym, ap}
-use mathlib.Core.Bool.{true, false, and-false}
-use mathlib.Core.List.{List, [], ◌∷◌}
-use native.Mathlib.Omega.{arith}
-use borrow.Author.Tests.{eqb-true, eq-eqb}
-use lib.Dec.{eqb}
-use lib.ListN.{length}
+use Rattle.std.proofs.Common.{ℕ, suc, ◌≡◌, refl, sym, ap, true, false, List, [], ◌∷◌, arith, eqb-true, eq-eqb, eqb, length}
+use mathlib.Core.Bool.{and-false}
 use Rattle.laws.specs.Texts.{sameBytes, known}
 use Rattle.laws.proofs.Truths.{and_left, and_right}
 use Rattle.laws.proofs.Numbers.{number-symmetric}

@@ -1,7 +1,5 @@
 -- What a test of a callee's answer says, by the callee's contract: `search (law, told)` takes a law's premise from the two.
-use mathlib.Core.Path.{◌≡◌, sym, ◌∙◌}
-use mathlib.Core.Bool.{Bool, true, false, not}
-use Prim.Native.Nat.{ℕ}
+use Rattle.std.proofs.Common.{◌≡◌, sym, ◌∙◌, Bool, true, false, not, ℕ}
 use borrow.Author.Tests.{not-true, not-false}
 
 module _ (u w : Bool) (e : u ≡ w) where

@@ -1,5 +1,4 @@
 use Rattle.laws.proofs.Slices.{slices}
-use borrow.Author.Rules.{rules}
 use Rattle.fields.proofs.bytes.byte_at.Goals as goal
 
 pub returns : goal.returns

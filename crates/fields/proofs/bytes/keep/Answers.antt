@@ -1,5 +1,4 @@
 use Rattle.laws.proofs.Slices.{slices}
-use borrow.Author.Rules.{rules}
 use Rattle.fields.proofs.bytes.keep.Goals as goal
 
 pub slice_bounds-result-end : goal.slice_bounds-result-end

@@ -1,13 +1,5 @@
 -- Equal up to i, so what is left decides; texts of different lengths differ somewhere.
-use mathlib.Core.Path.{◌≡◌, refl}
-use mathlib.Core.Bool.{true, false}
-use mathlib.Core.List.{List, ◌∷◌}
-use Prim.Native.Nat.{ℕ, ◌+◌, ◌-◌, ◌≤◌, ◌<◌}
-use native.Mathlib.Omega.{arith}
-use borrow.Author.Tests.{eq-eqb, ne_eqb}
-use lib.ListN.{length, get_or, drop, drop_of_length-le}
-use Rattle.laws.specs.Texts.{sameBytes}
-use Rattle.laws.proofs.Slices.{drop-step}
+use Rattle.std.proofs.Common.{arith}
 use Rattle.laws.proofs.Texts.{lengths_differ}
 use Rattle.fields.proofs.bytes.same_bytes.Invariants.{agree-none, differ, agree-one, agree-all}
 use Rattle.fields.proofs.bytes.same_bytes.Goals as goal

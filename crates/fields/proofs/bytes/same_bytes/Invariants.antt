@@ -1,14 +1,7 @@
 -- Equal up to i, so what is left decides; texts of different lengths differ somewhere.
-use mathlib.Core.Path.{◌≡◌, refl}
-use mathlib.Core.Bool.{true, false}
-use mathlib.Core.List.{List, ◌∷◌}
-use Prim.Native.Nat.{ℕ, ◌+◌, ◌-◌, ◌≤◌, ◌<◌}
-use native.Mathlib.Omega.{arith}
-use borrow.Author.Tests.{eq-eqb, ne_eqb}
-use lib.ListN.{length, get_or, drop, drop_of_length-le}
+use Rattle.std.proofs.Common.{◌≡◌, refl, true, false, List, ◌∷◌, ℕ, ◌+◌, ◌-◌, ◌≤◌, ◌<◌, arith, eq-eqb, ne_eqb, length, get_or, drop, drop_of_length-le}
 use Rattle.laws.specs.Texts.{sameBytes}
 use Rattle.laws.proofs.Slices.{drop-step}
-use Rattle.laws.proofs.Texts.{lengths_differ}
 use Rattle.fields.proofs.bytes.same_bytes.Given as goal
 
 -- a and b agree on their first i bytes

@@ -1,5 +1,4 @@
 use Rattle.laws.proofs.Slices.{slices}
-use borrow.Author.Rules.{rules}
 use Rattle.fields.proofs.bytes.skip.Goals as goal
 
 pub returns-then-n-s : goal.returns-then-n-s

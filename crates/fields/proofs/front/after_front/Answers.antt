@@ -1,9 +1,5 @@
 -- The bytes behind the head and as many more as it states.
-use mathlib.Core.Path.{◌≡◌}
-use mathlib.Core.List.{List}
-use Prim.Native.Nat.{ℕ, ◌+◌}
-use borrow.Author.Rules.{rules}
-use lib.ListN.{drop}
+use Rattle.std.proofs.Common.{◌≡◌, List, ℕ, ◌+◌, drop}
 use Rattle.fields.specs.Field.{length_of, after}
 use Rattle.fields.proofs.front.after_front.Goals as goal
 

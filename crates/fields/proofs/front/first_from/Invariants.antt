@@ -1,17 +1,6 @@
 -- A field out of the range is passed over, and the first of the range is still ahead.
-use mathlib.Core.Path.{◌≡◌, refl, sym, ◌∙◌}
-use mathlib.Core.Bool.{true, false, ◌&&◌}
-use mathlib.Core.List.{List}
-use Prim.Native.Nat.{ℕ}
-use borrow.Author.Rules.{rules}
-use lib.Dec.{leb}
-use lib.ListN.{length, drop}
-use lib.Seq.{drop-length}
-use Rattle.laws.proofs.Told.{told}
-use Rattle.fields.specs.Field.{whole, tag_of, after, from}
-use Rattle.fields.proofs.Reading.{after_less}
-use Rattle.fields.proofs.Parts.{tag-front}
-use Rattle.fields.proofs.Rows.{from_end, from-here, from_on}
+use Rattle.std.proofs.Common.{◌≡◌, length}
+use Rattle.fields.specs.Field.{from}
 use Rattle.fields.proofs.front.first_from.Given as goal
 
 abbrev pub invariant-loop-tag : goal.invariant-loop-tag

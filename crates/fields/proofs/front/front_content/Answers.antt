@@ -1,9 +1,5 @@
 -- The bytes behind the head, as many as it states.
-use mathlib.Core.Path.{◌≡◌}
-use mathlib.Core.List.{List}
-use Prim.Native.Nat.{ℕ}
-use borrow.Author.Rules.{rules}
-use lib.ListN.{take, drop}
+use Rattle.std.proofs.Common.{◌≡◌, List, ℕ, take, drop}
 use Rattle.fields.specs.Field.{length_of, content}
 use Rattle.fields.proofs.front.front_content.Goals as goal
 

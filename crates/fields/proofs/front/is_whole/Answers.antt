@@ -1,13 +1,6 @@
 -- Fewer than three bytes hold no head, so the first test only spares the reading of one.
-use mathlib.Core.Path.{◌≡◌, sym}
-use mathlib.Core.Bool.{false}
-use mathlib.Core.List.{List}
-use Prim.Native.Nat.{ℕ, ◌+◌, ◌<◌}
-use native.Mathlib.Omega.{arith}
-use borrow.Author.Rules.{rules}
+use Rattle.std.proofs.Common.{◌≡◌, sym, false, List, ℕ, ◌+◌, ◌<◌, arith, leb, length}
 use borrow.Author.Tests.{lt-leb}
-use lib.Dec.{leb}
-use lib.ListN.{length}
 use Rattle.fields.specs.Field.{whole, length_of}
 use Rattle.fields.proofs.front.is_whole.Goals as goal
 

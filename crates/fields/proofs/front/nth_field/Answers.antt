@@ -1,8 +1,6 @@
 -- What is left behind i fields has the n-th at n - i.
-use Prim.Native.Nat.{◌-◌}
-use native.Mathlib.Omega.{arith}
-use borrow.Author.Rules.{rules}
-use Rattle.fields.proofs.Places.{Passed, passed_none, passed-one, passed-all, passed-end, reads-nth}
+use Rattle.std.proofs.Common.{arith}
+use Rattle.fields.proofs.Places.{passed_none, passed-one, passed-all, passed-end, reads-nth}
 use Rattle.fields.proofs.front.nth_field.Goals as goal
 
 pub loop-i-init : goal.loop-i-init

@@ -1,8 +1,6 @@
 -- What is left behind i fields has the n-th at n - i.
-use Prim.Native.Nat.{◌-◌}
-use native.Mathlib.Omega.{arith}
-use borrow.Author.Rules.{rules}
-use Rattle.fields.proofs.Places.{Passed, passed_none, passed-one, passed-all, passed-end, reads-nth}
+use Rattle.std.proofs.Common.{◌-◌}
+use Rattle.fields.proofs.Places.{Passed}
 use Rattle.fields.proofs.front.nth_field.Given as goal
 
 abbrev pub invariant-loop-i : goal.invariant-loop-i

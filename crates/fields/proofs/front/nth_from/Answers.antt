@@ -1,14 +1,5 @@
 -- t starts with the i-th field of the range; the next is the first behind it.
-use mathlib.Core.Path.{◌≡◌, sym, ◌∙◌}
-use mathlib.Core.List.{List, []}
-use Prim.Native.Nat.{ℕ, ◌+◌, ◌-◌, ◌≤◌, ◌<◌}
-use native.Mathlib.Omega.{arith}
-use native.Mathlib.Numerals.{add-one}
-use borrow.Author.Rules.{rules}
-use lib.ListN.{length}
-use Rattle.laws.proofs.Lists.{no-elements}
-use Rattle.fields.specs.Field.{after, from, fromNth}
-use Rattle.fields.proofs.Rows.{nth_end}
+use Rattle.std.proofs.Common.{arith}
 use Rattle.fields.proofs.front.nth_from.Invariants.{passed_none, passed-one, passed-all, passed-end}
 use Rattle.fields.proofs.front.nth_from.Goals as goal
 

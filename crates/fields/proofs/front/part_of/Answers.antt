@@ -1,9 +1,5 @@
 -- The n-th of the bytes that hold the parts is the n-th part, and stands there.
-use mathlib.Core.Path.{◌≡◌}
-use mathlib.Core.List.{List}
-use Prim.Native.Nat.{ℕ}
-use borrow.Author.Rules.{rules}
-use lib.ListN.{take, drop}
+use Rattle.std.proofs.Common.{◌≡◌, List, ℕ, take, drop}
 use Rattle.fields.specs.Field.{fields, front, nth, part, parts, place_of, sizes}
 use Rattle.fields.proofs.front.part_of.Goals as goal
 

@@ -1,5 +1,4 @@
 -- The content is the parts exactly where the field is whole and its tag is of those that have parts.
-use borrow.Author.Rules.{rules}
 use Rattle.fields.proofs.Parts.{parts-front, parts-shown, no-parts, no-parts-shown}
 use Rattle.fields.proofs.front.parts_of.Goals as goal
 

@@ -1,5 +1,4 @@
 -- A field that is not whole is no field, and has the tag 0.
-use borrow.Author.Rules.{rules}
 use Rattle.laws.proofs.Told.{told}
 use Rattle.fields.proofs.Parts.{tag-front, tag-none}
 use Rattle.fields.proofs.front.tag_of.Goals as goal

@@ -1,5 +1,4 @@
 -- The content is the text exactly where the field is whole and has no parts.
-use borrow.Author.Rules.{rules}
 use Rattle.fields.proofs.Parts.{text-front, text-shown, no_text, no-text-shown}
 use Rattle.fields.proofs.front.text_of.Goals as goal
 

@@ -1,5 +1,4 @@
 -- The number is written where it is wanted and there is room, and counted where it is wanted.
-use borrow.Author.Rules.{rules}
 use Rattle.fields.proofs.Tables.{missed, noted, no_room}
 use Rattle.fields.proofs.table.note.Goals as goal
 

@@ -1,6 +1,5 @@
 -- Past the end a list has 0.
 use Rattle.laws.proofs.Slices.{slices}
-use borrow.Author.Rules.{rules}
 use Rattle.fields.proofs.table.number_at.Goals as goal
 
 pub returns : goal.returns
