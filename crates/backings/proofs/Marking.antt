@@ -1,12 +1,6 @@
 -- The marks by number: a number past the last of 64 has none, and a search passes over the numbers that do not match.
-use Prim.Native.Nat.{ℕ, suc, ◌+◌, ◌-◌, ◌≤◌, ◌<◌}
-use mathlib.Core.Path.{◌≡◌, refl, sym, ap, ◌∙◌}
-use mathlib.Core.Bool.{Bool, true, false, cond, not, ◌&&◌}
-use mathlib.Core.List.{List, []}
-use native.Mathlib.Omega.{arith}
-use borrow.Author.Tests.{lt-ltb, le-ltb, eq-eqb, ne_eqb, not-true, not-false}
-use lib.Dec.{eqb, ltb}
-use lib.ListN.{length, get_or, set}
+use Rattle.std.proofs.Common.{ℕ, suc, ◌+◌, ◌-◌, ◌≤◌, ◌<◌, ◌≡◌, refl, sym, ap, ◌∙◌, Bool, true, false, cond, not, ◌&&◌, List, [], arith, lt-ltb, le-ltb, eq-eqb, ne_eqb, eqb, ltb, length, get_or, set}
+use borrow.Author.Tests.{not-true, not-false}
 use Rattle.laws.proofs.Scanning.{Scanning, scanning-none, scanning-found}
 use Rattle.laws.specs.Numbers.{firstFrom, downFrom}
 use Rattle.laws.specs.Lists.{any}

@@ -1,11 +1,5 @@
 -- The backings by number, as the code reads them.
-use Prim.Native.Nat.{ℕ, ◌≤◌, ◌<◌}
-use mathlib.Core.Path.{◌≡◌, refl, ◌∙◌}
-use mathlib.Core.Bool.{Bool, true, false, not}
-use mathlib.Core.List.{List}
-use native.Mathlib.Omega.{arith}
-use borrow.Author.Tests.{lt-ltb, le-ltb}
-use lib.ListN.{length, get_or, drop, length-drop}
+use Rattle.std.proofs.Common.{ℕ, ◌≤◌, ◌<◌, ◌≡◌, refl, ◌∙◌, Bool, true, false, not, List, arith, lt-ltb, le-ltb, length, get_or, drop, length-drop}
 use Rattle.fields.specs.Field.{fields, front, part}
 use Rattle.model.specs.Model.{name_of}
 use Rattle.walking.specs.Walking.{peel, receiver}

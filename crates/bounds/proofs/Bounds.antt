@@ -1,12 +1,7 @@
 -- The rule goes into one part at most, so what it says of the first part, under the wrapping that the field leaves, decides.
 -- A missing part equals nothing and has no part, so nothing bounds it, and the rule may go into it all the same.
-use Prim.Native.Nat.{ℕ, ◌<◌}
-use mathlib.Core.Path.{◌≡◌, refl, sym}
-use mathlib.Core.Bool.{Bool, true, false, not, ◌&&◌, ◌||◌}
-use mathlib.Core.List.{List}
-use native.Mathlib.Omega.{arith}
+use Rattle.std.proofs.Common.{ℕ, ◌<◌, ◌≡◌, refl, sym, Bool, true, false, not, ◌&&◌, ◌||◌, List, arith, length, take, drop, length-drop}
 use borrow.Author.Tests.{not-true, not-false}
-use lib.ListN.{length, take, drop, length-drop}
 use Rattle.tags.specs.Tag.{isWrapper}
 use Rattle.fields.specs.Field.{Field, Fields, whole, front, tag, parts, part, nth, nothing, sizes}
 use Rattle.fields.specs.Field.Field.{field}

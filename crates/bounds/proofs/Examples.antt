@@ -1,8 +1,5 @@
 -- The definition computed on examples: what a backing bounds, and what a hurried reading would take for bounded.
-use Prim.Native.Nat.{ℕ}
-use mathlib.Core.Path.{◌≡◌, refl}
-use mathlib.Core.Bool.{Bool, true, false}
-use mathlib.Core.List.{List, [], ◌∷◌, ◌++◌}
+use Rattle.std.proofs.Common.{ℕ, ◌≡◌, refl, Bool, true, false, List, [], ◌∷◌, ◌++◌}
 use Rattle.laws.specs.Lists.{any, all, filter}
 use Rattle.laws.specs.Texts.{sameBytes}
 use Rattle.tags.specs.Tag.{composite, isWrapper}

@@ -1,12 +1,5 @@
 -- No two covers name the same: everything is free once at the start, and what a cover names is free once less after it.
-use Prim.Native.Nat.{ℕ, ◌+◌, ◌≤◌, ◌<◌}
-use native.Mathlib.Omega.{arith}
-use mathlib.Core.Path.{◌≡◌, refl, ap}
-use mathlib.Core.Bool.{Bool, true, false, ◌&&◌, ◌||◌, not}
-use mathlib.Core.List.{List, [], ◌∷◌}
-use borrow.Author.Tests.{eq-eqb, eqb-true}
-use lib.Dec.{eqb}
-use lib.ListN.{length, get_or}
+use Rattle.std.proofs.Common.{ℕ, ◌+◌, ◌≤◌, ◌<◌, arith, ◌≡◌, refl, ap, Bool, true, false, ◌&&◌, ◌||◌, not, List, [], ◌∷◌, eq-eqb, eqb-true, eqb, length, get_or}
 use Rattle.laws.specs.Lists.{any, filter, position, numbered}
 use Rattle.laws.specs.Texts.{sameBytes}
 use Rattle.laws.proofs.Counting.{bit, count, count-cons, count-append, count_none, count_index, count-taken, only_one}

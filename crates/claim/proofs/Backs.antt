@@ -1,15 +1,8 @@
 -- Demand 3, first half: each cover backs its payout, since what is free is among the entry's debits and parameters, each at
 -- its index, and a reserve stands at the position of its name.
-use Prim.Native.Nat.{ℕ, zero, suc, ◌<◌}
-use native.Mathlib.Omega.{arith}
-use native.Mathlib.Nat.{not-suc-le-zero}
-use mathlib.Core.Path.{◌≡◌, refl, ap}
-use mathlib.Core.Bool.{Bool, true, false, ◌&&◌, not, or-false}
-use mathlib.Core.List.{List}
+use Rattle.std.proofs.Common.{ℕ, zero, suc, ◌<◌, arith, not-suc-le-zero, ◌≡◌, refl, ap, Bool, true, false, ◌&&◌, not, List, eq-eqb, eqb, length, get_or}
+use mathlib.Core.Bool.{or-false}
 use mathlib.Core.Option.{some}
-use borrow.Author.Tests.{eq-eqb}
-use lib.Dec.{eqb}
-use lib.ListN.{length, get_or}
 use Rattle.laws.specs.Lists.{any, find, removeFirst, position, numbered}
 use Rattle.laws.specs.Texts.{sameBytes}
 use Rattle.laws.proofs.Finding.{any_found, any-removed, find-passes}

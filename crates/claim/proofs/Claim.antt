@@ -1,11 +1,6 @@
 -- Demand 3, proved: accepted, the pass gave each payout its cover (Passing), which backs it (Backs), names what no other names
 -- (Apart), and is the j-th of its amount where all have equal backings (Exact); and the bytes say kind and index (Sheets).
-use Prim.Native.Nat.{ℕ, ◌*◌, ◌<◌}
-use native.Mathlib.Omega.{arith}
-use mathlib.Core.Path.{◌≡◌, refl, ap, ◌∙◌}
-use mathlib.Core.Bool.{true, not}
-use mathlib.Core.List.{List}
-use lib.ListN.{length, get_or, drop}
+use Rattle.std.proofs.Common.{ℕ, ◌*◌, ◌<◌, arith, ◌≡◌, refl, ap, ◌∙◌, true, not, List, length, get_or, drop}
 use borrow.Author.Tests.{not-true}
 use Rattle.laws.specs.Lists.{any}
 use Rattle.fields.specs.Field.{Field, Fields, fields}

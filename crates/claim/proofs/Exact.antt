@@ -1,13 +1,9 @@
 -- Demand 3, second half: where each payout's amount equals some backing's, each takes the next one of its amount, and nothing
 -- else is taken.
-use Prim.Native.Nat.{ℕ, zero, suc, ◌<◌}
-use native.Mathlib.Omega.{arith}
-use native.Mathlib.Nat.{not-suc-le-zero}
-use mathlib.Core.Path.{◌≡◌, refl, sym, ap, ◌∙◌}
-use mathlib.Core.Bool.{Bool, true, false, ◌||◌, false≢true}
-use mathlib.Core.List.{List, [], ◌∷◌}
-use mathlib.Core.Option.{Option, none, some}
-use lib.ListN.{length, get_or, get_elem?, take, drop}
+use Rattle.std.proofs.Common.{ℕ, zero, suc, ◌<◌, arith, not-suc-le-zero, ◌≡◌, refl, sym, ap, ◌∙◌, Bool, true, false, ◌||◌, List, [], ◌∷◌, Option, length, get_or, take, drop}
+use mathlib.Core.Bool.{false≢true}
+use mathlib.Core.Option.{none, some}
+use lib.ListN.{get_elem?}
 use Rattle.laws.specs.Lists.{any, filter, find, removeFirst}
 use Rattle.laws.proofs.Counting.{count}
 use Rattle.laws.proofs.Finding.{any-removed, any-not-found, find-passes, find-filter, filter-other, filter-taken}

@@ -1,8 +1,6 @@
 -- The edges of the rules of tokens, conditions, amounts, bounds and reserves, computed as verdicts.
+use Rattle.std.proofs.Common.{ℕ, ◌≡◌, refl, List, [], ◌∷◌, ◌++◌}
 use Prim.Native.String.{String}
-use Prim.Native.Nat.{ℕ}
-use mathlib.Core.Path.{◌≡◌, refl}
-use mathlib.Core.List.{List, [], ◌∷◌, ◌++◌}
 use Rattle.tags.specs.Tag.{Genesis, Limits, Denies, Set, AddTo, SubtractFrom, Not, Call, Checked, Wrapping, Or, And, Eq, Ne, Lt, Ge, Add, Sub, Rem, Shr}
 use Rattle.tags.specs.Tag.{String as StringTag}
 use Rattle.fields.proofs.Writing.{write, word, integer, identifier}

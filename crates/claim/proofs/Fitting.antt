@@ -1,13 +1,6 @@
 -- The index of a cover that backs a payout fits in two bytes: an entry has few backings, and a file few state fields.
-use Prim.Native.Nat.{ℕ, zero, suc, ◌+◌, ◌≤◌, ◌<◌, suc-le-suc}
-use native.Mathlib.Nat.{le_trans}
-use native.Mathlib.Omega.{arith}
-use mathlib.Core.Path.{◌≡◌, refl}
-use mathlib.Core.Bool.{Bool, true, false, ◌&&◌, ◌||◌}
-use mathlib.Core.List.{List}
-use borrow.Author.Tests.{leb-true}
-use lib.Dec.{eqb, leb, ltb}
-use lib.ListN.{length, length-map}
+use Rattle.std.proofs.Common.{ℕ, zero, suc, ◌+◌, ◌≤◌, ◌<◌, suc-le-suc, le_trans, arith, ◌≡◌, refl, Bool, true, false, ◌&&◌, ◌||◌, List, leb-true, eqb, leb, ltb, length}
+use lib.ListN.{length-map}
 use Rattle.laws.specs.Lists.{filter}
 use Rattle.laws.proofs.Lists.{filter-few}
 use Rattle.laws.proofs.Numbered.{numbered-length}

@@ -1,13 +1,6 @@
 -- Where things are numbered from 0, the one with a number stands at that index.
-use Prim.Native.Nat.{ℕ, zero, suc, ◌+◌, ◌≤◌, ◌<◌}
-use native.Mathlib.Omega.{arith}
-use native.Mathlib.Nat.{zero-add}
-use mathlib.Core.Path.{◌≡◌}
-use mathlib.Core.Bool.{Bool, true, ◌&&◌, false≢true}
-use mathlib.Core.List.{List, [], ◌∷◌, map}
-use borrow.Author.Tests.{eqb-true}
-use lib.Dec.{eqb}
-use lib.ListN.{length}
+use Rattle.std.proofs.Common.{ℕ, zero, suc, ◌+◌, ◌≤◌, ◌<◌, arith, zero-add, ◌≡◌, Bool, true, ◌&&◌, List, [], ◌∷◌, map, eqb-true, eqb, length}
+use mathlib.Core.Bool.{false≢true}
 use Rattle.laws.specs.Lists.{any, position, numbered}
 use Rattle.laws.proofs.Finding.{find-passes, find-position, any-finds}
 use Rattle.laws.proofs.Truths.{and_left, and_right, either}

@@ -1,9 +1,6 @@
 -- Accepted, the pass gave each payout a cover: the payouts one by one, each from the marks that the one before it left.
-use Prim.Native.Nat.{ℕ, suc}
-use mathlib.Core.Path.{◌≡◌, refl, ap}
+use Rattle.std.proofs.Common.{ℕ, suc, ◌≡◌, refl, ap, List, [], ◌∷◌, length}
 use mathlib.Core.Bool.{false≢true}
-use mathlib.Core.List.{List, [], ◌∷◌}
-use lib.ListN.{length}
 use Rattle.fields.specs.Field.{Field, Fields}
 use Rattle.matching.specs.Matching.{Cover, Marks, Answer, answer}
 use Rattle.matching.specs.Matching.Answer.{cover, rejection}

@@ -1,8 +1,6 @@
 -- Entries written by hand, and what the definitions say of them.
-use Prim.Native.Nat.{ℕ}
+use Rattle.std.proofs.Common.{ℕ, List, [], ◌++◌, map, flat_map, length}
 use Prim.Native.String.{String}
-use mathlib.Core.List.{List, [], ◌++◌, map, flat_map}
-use lib.ListN.{length}
 use Rattle.laws.specs.Lists.{any, all, filter, find, removeFirst, position, numbered}
 use Rattle.laws.specs.Texts.{sameBytes, known}
 use Rattle.tags.specs.Tag.{State, Entry, Parameter, Guard, AddTo, SubtractFrom, ExpressionStatement, Caller, InAsset, Member, Call, Eq, Ge, Sub, Mul, Div}

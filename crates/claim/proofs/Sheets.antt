@@ -1,9 +1,5 @@
 -- The bytes of the covers say each cover's kind and index: three bytes a cover, one after the other.
-use Prim.Native.Nat.{ℕ, zero, suc, ◌+◌, ◌*◌, ◌<◌}
-use native.Mathlib.Omega.{arith}
-use mathlib.Core.Path.{◌≡◌, refl}
-use mathlib.Core.List.{List, [], ◌∷◌, ◌++◌}
-use lib.ListN.{length, get_or}
+use Rattle.std.proofs.Common.{ℕ, zero, suc, ◌+◌, ◌*◌, ◌<◌, arith, ◌≡◌, refl, List, [], ◌∷◌, ◌++◌, length, get_or}
 use Rattle.matching.specs.Matching.{Cover, Source, Backing, debit, parameter, equalCover}
 use Rattle.matching.specs.Matching.Cover.{equalDebit, equalParameter}
 use Rattle.claim.specs.Verdict.{kind, index, sheet}

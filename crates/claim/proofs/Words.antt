@@ -1,8 +1,5 @@
 -- The claim's own words computed: what backs a payout and what does not, and which is the j-th of an amount.
-use Prim.Native.Nat.{ℕ}
-use mathlib.Core.Path.{◌≡◌, refl}
-use mathlib.Core.Bool.{Bool, true, false}
-use mathlib.Core.List.{List, [], ◌∷◌, ◌++◌, map}
+use Rattle.std.proofs.Common.{ℕ, ◌≡◌, refl, Bool, true, false, List, [], ◌∷◌, ◌++◌, map}
 use mathlib.Core.Option.{none, some}
 use Rattle.tags.specs.Tag.{Checked}
 use Rattle.fields.specs.Field.{front, fields}

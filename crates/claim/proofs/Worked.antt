@@ -1,8 +1,5 @@
 -- The entries that the rules work by hand, K1 to K12, and the refusals 1 to 12, computed from the definitions.
-use Prim.Native.Nat.{ℕ}
-use mathlib.Core.Path.{◌≡◌, refl}
-use mathlib.Core.List.{List, [], ◌∷◌, ◌++◌}
-use lib.ListN.{replicate}
+use Rattle.std.proofs.Common.{ℕ, ◌≡◌, refl, List, [], ◌∷◌, ◌++◌, replicate}
 use Rattle.tags.specs.Tag.{State, Genesis, Entry, Limits, Name, Date, String, Caller, Call, Checked, Wrapping, Eq, Ge, SubtractFrom}
 use Rattle.fields.proofs.Writing.{write, word, name, integer, identifier, times, nots}
 use Rattle.matching.specs.Matching.Cover.{equalDebit, equalParameter, boundingDebit, boundingParameter, reserve}

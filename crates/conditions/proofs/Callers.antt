@@ -1,14 +1,9 @@
 -- What a caller of the listing knows: each condition stands in the entry at its place, which two bytes hold beside the mark,
 -- so the numbers of the table give the conditions back; and there are few of them.
-use Prim.Native.Nat.{ℕ, ◌+◌, ◌*◌, ◌%◌, ◌≤◌, ◌<◌}
-use mathlib.Core.Path.{◌≡◌, refl}
-use mathlib.Core.Bool.{Bool, true, false}
-use mathlib.Core.List.{List, [], ◌∷◌, map, flat_map}
-use native.Mathlib.Omega.{arith}
-use native.Mathlib.Nat.{mod-eq_of_lt}
-use borrow.Author.Tests.{leb-true, le-leb, lt-leb}
-use lib.Dec.{eqb}
-use lib.ListN.{length, take, drop, length-map}
+use Rattle.std.proofs.Common.{ℕ, ◌+◌, ◌*◌, ◌%◌, ◌≤◌, ◌<◌, ◌≡◌, refl, Bool, true, false, List, [], ◌∷◌, map, arith, mod-eq_of_lt, leb-true, le-leb, eqb, length, take, drop}
+use mathlib.Core.List.{flat_map}
+use borrow.Author.Tests.{lt-leb}
+use lib.ListN.{length-map}
 use Rattle.laws.specs.Lists.{filter}
 use Rattle.laws.proofs.Lists.{Every, every_append, every-filter, every-flatMap}
 use Rattle.laws.proofs.Truths.{chosen}

@@ -1,12 +1,6 @@
 -- How many conditions there are at most: each is an expression of its own, which takes three bytes at least.
-use Prim.Native.Nat.{ℕ, ◌+◌, ◌*◌, ◌≤◌}
-use mathlib.Core.Path.{◌≡◌, refl}
-use mathlib.Core.Bool.{Bool, true, false, cond}
-use mathlib.Core.List.{List, ◌∷◌, ◌++◌, flat_map}
-use native.Mathlib.Omega.{arith}
-use borrow.Author.Tests.{leb-true}
-use lib.Dec.{eqb, leb}
-use lib.ListN.{length, length-append}
+use Rattle.std.proofs.Common.{ℕ, ◌+◌, ◌*◌, ◌≤◌, ◌≡◌, refl, Bool, true, false, cond, List, ◌∷◌, ◌++◌, arith, leb-true, eqb, leb, length, length-append}
+use mathlib.Core.List.{flat_map}
 use Rattle.laws.specs.Lists.{filter}
 use Rattle.laws.proofs.Truths.{and_left, and_right, chosen}
 use Rattle.tags.specs.Tag.{Limits, Denies, Guard, Not, Or, And, Eq, Ge, between}

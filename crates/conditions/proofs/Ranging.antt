@@ -1,11 +1,7 @@
 -- The clauses or guards of an entry, one after the other: whoever lists those that are left has listed all.
-use Prim.Native.Nat.{ℕ, ◌+◌, ◌-◌, ◌≤◌}
-use mathlib.Core.Path.{◌≡◌, refl, ◌∙◌}
-use mathlib.Core.Bool.{true, false, cond}
-use mathlib.Core.List.{List, flat_map, map-append}
-use native.Mathlib.Omega.{arith}
-use lib.Dec.{eqb}
-use lib.ListN.{length, length-map}
+use Rattle.std.proofs.Common.{ℕ, ◌+◌, ◌-◌, ◌≤◌, ◌≡◌, refl, ◌∙◌, true, false, cond, List, arith, eqb, length}
+use mathlib.Core.List.{flat_map, map-append}
+use lib.ListN.{length-map}
 use Rattle.fields.specs.Field.{Placed, fields, length_of, whole, after, front, tag, parts, from}
 use Rattle.fields.specs.Table.{Listed, Room}
 use Rattle.fields.proofs.Places.{front-size}

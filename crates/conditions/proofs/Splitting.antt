@@ -1,13 +1,8 @@
 -- What is listed at each return, of an expression that is required or denied: the definitions by one step, at the field in
 -- front.
-use Prim.Native.Nat.{ℕ, ◌+◌, ◌*◌, ◌%◌, ◌<◌}
-use mathlib.Core.Path.{◌≡◌, refl, ap, ◌∙◌}
-use mathlib.Core.Bool.{Bool, true, false, cond, ◌&&◌}
-use mathlib.Core.List.{List, [], ◌∷◌, map-append}
-use borrow.Author.Tests.{eq-eqb, ne_eqb}
-use lib.Dec.{eqb, leb}
-use native.Mathlib.Omega.{arith}
-use lib.ListN.{length, take, drop, length-map}
+use Rattle.std.proofs.Common.{ℕ, ◌+◌, ◌*◌, ◌%◌, ◌<◌, ◌≡◌, refl, ap, ◌∙◌, Bool, true, false, cond, ◌&&◌, List, [], ◌∷◌, eq-eqb, ne_eqb, eqb, leb, arith, length, take, drop}
+use mathlib.Core.List.{map-append}
+use lib.ListN.{length-map}
 use Rattle.tags.specs.Tag.{Not, Or, And, Eq, Ge, between}
 use Rattle.fields.specs.Field.{Field, Fields, fields, tag_of, whole, front, tag, parts, size, sizes}
 use Rattle.fields.specs.Field.Field.{field}

@@ -1,6 +1,5 @@
 -- Demand 3 holds of each entry whatever is lent for its covers.
-use Prim.Native.Nat.{ℕ}
-use mathlib.Core.List.{List, []}
+use Rattle.std.proofs.Common.{ℕ, List, []}
 use Rattle.fields.specs.Field.{fields}
 use Rattle.claim.specs.Verdict.{entry_at, entryVerdict, verdict}
 use Rattle.claim.proofs.Claim.{backed}

@@ -1,7 +1,6 @@
 -- Records computed from the definitions, as bytes, and what the entries of a file are together.
-use Prim.Native.Nat.{ℕ}
-use mathlib.Core.Path.{◌≡◌, refl}
-use mathlib.Core.List.{List, [], ◌∷◌, ◌++◌, flat_map}
+use Rattle.std.proofs.Common.{ℕ, ◌≡◌, refl, List, [], ◌∷◌, ◌++◌}
+use mathlib.Core.List.{flat_map}
 use Rattle.fields.proofs.Writing.{integer, times}
 use Rattle.claim.specs.Verdict.{kind, index, reason, sheet, written, spare}
 use Rattle.claim.proofs.Samples.{found, entry, state, asset, guard, holds, amount, send, raising, drawing}

@@ -1,14 +1,7 @@
 -- Each "no" has a small number, and a place in the file: places go up field by field, and the fields take the file's bytes.
-use Prim.Native.Nat.{ℕ, zero, suc, ◌+◌, ◌*◌, ◌%◌, ◌≤◌, ◌<◌}
-use mathlib.Core.Path.{◌≡◌, refl, sym, ap, ◌∙◌}
-use mathlib.Core.Bool.{Bool, true, false, not, ◌||◌}
-use mathlib.Core.List.{List, [], ◌∷◌, ◌++◌, map}
-use mathlib.Core.Option.{Option, none, some}
-use native.Mathlib.Omega.{arith}
-use borrow.Author.Tests.{leb-true}
-use lib.Dec.{leb, ltb}
-use lib.ListN.{length, get_or, drop, get_or-map}
-use lib.Seq.{get_or-drop}
+use Rattle.std.proofs.Common.{ℕ, zero, suc, ◌+◌, ◌*◌, ◌%◌, ◌≤◌, ◌<◌, ◌≡◌, refl, sym, ap, ◌∙◌, Bool, true, false, not, ◌||◌, List, [], ◌∷◌, ◌++◌, map, Option, arith, leb-true, leb, ltb, length, get_or, drop, get_or-drop}
+use mathlib.Core.Option.{none, some}
+use lib.ListN.{get_or-map}
 use Rattle.laws.specs.Lists.{any, filter}
 use Rattle.laws.specs.Texts.{sameBytes}
 use Rattle.laws.proofs.Lists.{Every, every-filter, every-at}

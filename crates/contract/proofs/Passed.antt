@@ -1,12 +1,6 @@
 -- What the questions say of a file and of an entry that pass them.
-use Prim.Native.Nat.{ℕ, ◌*◌, ◌≤◌}
-use mathlib.Core.Path.{◌≡◌, refl, ap}
-use mathlib.Core.Bool.{true, false, false≢true}
-use mathlib.Core.List.{List, [], ◌∷◌}
-use native.Mathlib.Omega.{arith}
-use borrow.Author.Tests.{leb-true}
-use lib.Dec.{leb, ltb}
-use lib.ListN.{length, drop, length-drop}
+use Rattle.std.proofs.Common.{ℕ, ◌*◌, ◌≤◌, ◌≡◌, refl, ap, true, false, List, [], ◌∷◌, arith, leb-true, leb, ltb, length, drop, length-drop}
+use mathlib.Core.Bool.{false≢true}
 use Rattle.laws.specs.Lists.{filter}
 use Rattle.fields.specs.Field.{Fields, Placed, fields}
 use Rattle.model.specs.Model.{states, entries}

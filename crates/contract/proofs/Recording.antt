@@ -1,10 +1,6 @@
 -- The records of the entries before one are written, and the largest of what those are is known; without that one it is all.
-use Prim.Native.Nat.{ℕ, suc, ◌-◌, ◌*◌, ◌≤◌, ◌<◌}
-use mathlib.Core.Path.{◌≡◌, refl, ap}
-use mathlib.Core.Bool.{true, false}
-use mathlib.Core.List.{List, flat_map}
-use native.Mathlib.Omega.{arith}
-use lib.ListN.{length, take, drop}
+use Rattle.std.proofs.Common.{ℕ, suc, ◌-◌, ◌*◌, ◌≤◌, ◌<◌, ◌≡◌, refl, ap, true, false, List, arith, length, take, drop}
+use mathlib.Core.List.{flat_map}
 use Rattle.walking.specs.Table.{placed_at}
 use Rattle.tags.specs.Tag.{Entry}
 use Rattle.fields.specs.Field.{fields, whole, after, from, fromNth}

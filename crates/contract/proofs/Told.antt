@@ -1,6 +1,5 @@
 -- The numbers of a verdict, case by case of the one that the code has.
-use Prim.Native.Nat.{ℕ}
-use mathlib.Core.Path.{◌≡◌, refl}
+use Rattle.std.proofs.Common.{ℕ, ◌≡◌, refl}
 use mathlib.Core.Bool.{false≢true}
 use Rattle.matching.specs.Matching.{Reason}
 use Rattle.matching.specs.Matching.Reason.{splitWithoutAmount, conflictAtEqual, amountTaken, conflictAtBounding, noReserve, reserveUsed}

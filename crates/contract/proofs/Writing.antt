@@ -1,14 +1,5 @@
 -- A record is written piece by piece: what it is, its two numbers, and the covers of an accepted entry.
-use Prim.Native.Nat.{ℕ, ◌+◌, ◌-◌, ◌*◌, ◌/◌, ◌%◌, ◌^◌, ◌≤◌, ◌<◌}
-use mathlib.Core.Path.{◌≡◌, refl, sym, ap, ◌∙◌}
-use mathlib.Core.Bool.{cond}
-use mathlib.Core.List.{List, [], ◌∷◌, ◌++◌, append-nil}
-use native.Mathlib.Omega.{arith}
-use borrow.Author.Tests.{eq-eqb, ne_eqb}
-use mir.Syntax.{w64}
-use mir.Val.{Fits}
-use lib.Dec.{eqb}
-use lib.ListN.{length, take, drop, length-append}
+use Rattle.std.proofs.Common.{ℕ, ◌+◌, ◌-◌, ◌*◌, ◌/◌, ◌%◌, ◌^◌, ◌≤◌, ◌<◌, ◌≡◌, refl, sym, ap, ◌∙◌, cond, List, [], ◌∷◌, ◌++◌, append-nil, arith, eq-eqb, ne_eqb, w64, Fits, eqb, length, take, drop, length-append}
 use lib.Seq.{drop-nil, take-append_seam}
 use Rattle.fields.specs.Field.{Field, fields}
 use Rattle.walking.specs.Table.{placed_at}

@@ -1,15 +1,6 @@
 -- What a reading step found says how the bytes from its place on are read.
-use Prim.Native.Nat.{ℕ, ◌+◌, ◌-◌, ◌^◌, ◌≤◌, ◌<◌}
-use mathlib.Core.Path.{◌≡◌, refl, sym, ap, ◌∙◌}
-use mathlib.Core.Bool.{Bool, true, false, cond}
-use mathlib.Core.List.{List, []}
-use native.Mathlib.Omega.{arith}
-use borrow.Author.Tests.{le-leb, lt-leb, leb-true, leb-false}
-use mir.Syntax.{w64}
-use mir.Val.{Fits}
-use lib.Dec.{leb}
-use lib.ListN.{length, take, drop, length-drop}
-use lib.Seq.{drop-drop}
+use Rattle.std.proofs.Common.{ℕ, ◌+◌, ◌-◌, ◌^◌, ◌≤◌, ◌<◌, ◌≡◌, refl, sym, ap, ◌∙◌, Bool, true, false, cond, List, [], arith, le-leb, leb-true, leb-false, w64, Fits, leb, length, take, drop, length-drop, drop-drop}
+use borrow.Author.Tests.{lt-leb}
 use Rattle.laws.proofs.Lists.{no-elements}
 use Rattle.fields.specs.Field.{tag_of, length_of, whole, content, after}
 use Rattle.cursor.specs.Cursor.{headAt, textAt, part_at, cursorAt}

@@ -1,14 +1,8 @@
 -- The table of an entry's payouts or debits: what was chosen among the calls are all there are, in walk order, each at its
 -- place in the file.
-use Prim.Native.Nat.{ℕ, zero, suc, ◌+◌, ◌*◌, ◌%◌, ◌≤◌, ◌<◌}
-use mathlib.Core.Path.{◌≡◌, refl, sym, ap, ◌∙◌}
-use mathlib.Core.Bool.{Bool, true, false, cond}
-use mathlib.Core.List.{List, [], ◌∷◌, ◌++◌, map}
-use native.Mathlib.Omega.{arith}
-use native.Mathlib.Nat.{zero-add}
-use lib.Dec.{eqb}
-use lib.ListN.{length, get_or, set, take, drop, length-set, length-map, get_or-map}
-use lib.Seq.{sets, get_or-set_same, get_or-set_other}
+use Rattle.std.proofs.Common.{ℕ, zero, suc, ◌+◌, ◌*◌, ◌%◌, ◌≤◌, ◌<◌, ◌≡◌, refl, sym, ap, ◌∙◌, Bool, true, false, cond, List, [], ◌∷◌, ◌++◌, map, arith, zero-add, eqb, length, get_or, set, take, drop, length-set, get_or-set_same, get_or-set_other}
+use lib.ListN.{length-map, get_or-map}
+use lib.Seq.{sets}
 use Rattle.laws.proofs.Tables.{sets-at}
 use Rattle.laws.specs.Lists.{filter}
 use Rattle.laws.proofs.Lists.{Every, every-filter, filter-first}

@@ -1,12 +1,6 @@
 -- Choosing among the places of a table: those before i are gone through.
-use Prim.Native.Nat.{ℕ, suc, ◌+◌, ◌%◌, ◌^◌, ◌≤◌, ◌<◌}
-use mathlib.Core.Path.{◌≡◌, refl, sym, ap, ◌∙◌}
-use mathlib.Core.Bool.{Bool, true, false, cond}
-use mathlib.Core.List.{List, [], ◌∷◌, ◌++◌, map, map-append}
-use native.Mathlib.Omega.{arith}
-use native.Mathlib.Numerals.{add-one}
-use lib.ListN.{length, get_or, take, drop}
-use lib.Seq.{take_all, take-suc}
+use Rattle.std.proofs.Common.{ℕ, suc, ◌+◌, ◌%◌, ◌^◌, ◌≤◌, ◌<◌, ◌≡◌, refl, sym, ap, ◌∙◌, Bool, true, false, cond, List, [], ◌∷◌, ◌++◌, map, arith, add-one, length, get_or, take, drop, take_all, take-suc}
+use mathlib.Core.List.{map-append}
 use Rattle.laws.specs.Lists.{filter}
 use Rattle.laws.proofs.Lists.{filter-append}
 use Rattle.fields.specs.Field.{Field, front}

@@ -1,14 +1,9 @@
 -- The asset parameters of an entry, one after the other: whoever lists the places of those that are left has listed all. Each
 -- stands in the file at its place, so that its name is read there.
-use Prim.Native.Nat.{ℕ, ◌+◌, ◌-◌, ◌^◌, ◌≤◌, ◌<◌}
-use mathlib.Core.Path.{◌≡◌, refl, sym, ap, ◌∙◌}
-use mathlib.Core.Bool.{Bool, true, false, cond}
-use mathlib.Core.List.{List, [], ◌∷◌, ◌++◌, map, flat_map, append_assoc}
-use native.Mathlib.Omega.{arith}
-use mir.Syntax.{w64}
-use mir.Val.{Fits}
-use lib.ListN.{length, get_or, take, drop, length-map, length-take, length-drop, get_or-append}
-use lib.Seq.{sets-eq, length-sets, take_at, length-take-le}
+use Rattle.std.proofs.Common.{ℕ, ◌+◌, ◌-◌, ◌^◌, ◌≤◌, ◌<◌, ◌≡◌, refl, sym, ap, ◌∙◌, Bool, true, false, cond, List, [], ◌∷◌, ◌++◌, map, append_assoc, arith, w64, Fits, length, get_or, take, drop, length-take, length-drop, take_at, length-take-le}
+use mathlib.Core.List.{flat_map}
+use lib.ListN.{length-map, get_or-append}
+use lib.Seq.{sets-eq, length-sets}
 use Rattle.laws.specs.Lists.{filter}
 use Rattle.laws.proofs.Lists.{Every, every-filter, map_at}
 use Rattle.laws.proofs.Slices.{getD-behind}

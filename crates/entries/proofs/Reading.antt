@@ -1,12 +1,7 @@
 -- What is listed among the calls of an entry are its payouts and its debits, and behind these stand its asset parameters.
-use Prim.Native.Nat.{ℕ, zero, suc, ◌+◌, ◌-◌, ◌*◌, ◌%◌, ◌≤◌, ◌<◌}
-use mathlib.Core.Path.{◌≡◌, refl, sym, ap, ◌∙◌}
-use mathlib.Core.Bool.{Bool, true, false}
-use mathlib.Core.List.{List, [], ◌∷◌, map}
-use native.Mathlib.Omega.{arith}
-use borrow.Author.Tests.{leb-true}
-use lib.ListN.{length, get_or, take, drop, replicate, length-drop, length-map, length-take, length-replicate}
-use lib.Seq.{length-sets, length-take-le, get_or-take}
+use Rattle.std.proofs.Common.{ℕ, zero, suc, ◌+◌, ◌-◌, ◌*◌, ◌%◌, ◌≤◌, ◌<◌, ◌≡◌, refl, sym, ap, ◌∙◌, Bool, true, false, List, [], ◌∷◌, map, arith, leb-true, length, get_or, take, drop, replicate, length-drop, length-take, length-take-le, get_or-take}
+use lib.ListN.{length-map, length-replicate}
+use lib.Seq.{length-sets}
 use Rattle.laws.proofs.Lists.{filter-few, map_at}
 use Rattle.laws.specs.Lists.{filter}
 use Rattle.tags.specs.Tag.{Call}

@@ -1,11 +1,7 @@
 -- The `p.amount` of a parameter is compared part by part with what stands in the file: two parts without parts of their own,
 -- and no third.
-use Prim.Native.Nat.{ℕ}
-use mathlib.Core.Path.{◌≡◌, refl, sym, ◌∙◌}
-use mathlib.Core.Bool.{Bool, true, false, not, ◌&&◌, and-true}
-use mathlib.Core.List.{List, []}
-use borrow.Author.Tests.{eq-eqb, eqb-true, ne_eqb}
-use lib.Dec.{eqb}
+use Rattle.std.proofs.Common.{ℕ, ◌≡◌, refl, sym, ◌∙◌, Bool, true, false, not, ◌&&◌, List, [], eq-eqb, eqb-true, ne_eqb, eqb}
+use mathlib.Core.Bool.{and-true}
 use Rattle.laws.specs.Texts.{sameBytes, bytes}
 use Rattle.laws.proofs.Numbers.{number-symmetric}
 use Rattle.tags.specs.Tag.{Name, Identifier, Member, composite}

@@ -1,13 +1,8 @@
 -- What is known of two parts of the file at each answer of expr_eq and parts_eq: a field that is not whole equals nothing,
 -- a text or the parts decide where the tags are the same, and parts are equal one by one.
-use Prim.Native.Nat.{ℕ, ◌≤◌}
-use mathlib.Core.Path.{◌≡◌, refl, sym, ◌∙◌}
-use mathlib.Core.Bool.{Bool, true, false, not, ◌&&◌, and-true}
-use mathlib.Core.List.{List}
-use native.Mathlib.Omega.{arith}
-use borrow.Author.Tests.{eqb-true, not-true, not-false}
-use lib.Dec.{eqb}
-use lib.ListN.{length}
+use Rattle.std.proofs.Common.{ℕ, ◌≤◌, ◌≡◌, refl, sym, ◌∙◌, Bool, true, false, not, ◌&&◌, List, arith, eqb-true, eqb, length}
+use mathlib.Core.Bool.{and-true}
+use borrow.Author.Tests.{not-true, not-false}
 use Rattle.laws.proofs.Truths.{and_left, and_right}
 use Rattle.tags.specs.Tag.{composite}
 use Rattle.fields.specs.Field.{fields, tag_of, whole, content, after, front}

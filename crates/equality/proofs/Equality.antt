@@ -1,10 +1,6 @@
 -- Equality is symmetric and transitive, since the comparison of tags and of texts is, and each part has one counterpart.
-use Prim.Native.Nat.{ℕ}
-use mathlib.Core.Path.{◌≡◌, refl, ◌∙◌}
-use mathlib.Core.Bool.{Bool, true, false, ◌&&◌, ◌||◌, and-false}
-use mathlib.Core.List.{List}
-use borrow.Author.Tests.{eqb-true, eq-eqb}
-use lib.Dec.{eqb}
+use Rattle.std.proofs.Common.{ℕ, ◌≡◌, refl, ◌∙◌, Bool, true, false, ◌&&◌, ◌||◌, List, eqb-true, eq-eqb, eqb}
+use mathlib.Core.Bool.{and-false}
 use Rattle.laws.specs.Texts.{sameBytes}
 use Rattle.laws.proofs.Numbers.{number-symmetric}
 use Rattle.laws.proofs.Texts.{bytes-equal, bytes_same, bytes-symmetric, bytes-transitive}

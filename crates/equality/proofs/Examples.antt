@@ -1,9 +1,6 @@
 -- The definition computed on examples: what is equal, and what a hurried reading would take for equal.
-use Prim.Native.Nat.{ℕ}
+use Rattle.std.proofs.Common.{ℕ, ◌≡◌, refl, Bool, true, false, List, [], ◌∷◌}
 use Prim.Native.String.{String}
-use mathlib.Core.Path.{◌≡◌, refl}
-use mathlib.Core.Bool.{Bool, true, false}
-use mathlib.Core.List.{List, [], ◌∷◌}
 use Rattle.laws.specs.Lists.{any, all, filter}
 use Rattle.laws.specs.Texts.{sameBytes, bytes}
 use Rattle.tags.specs.Tag.{isExpression, composite}

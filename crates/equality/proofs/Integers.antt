@@ -1,12 +1,7 @@
 -- Two texts without underscores, gone through at once: an underscore on either side changes nothing, and a pair of equal
 -- bytes leaves the rest to decide.
-use mathlib.Core.Path.{◌≡◌, refl, sym, ◌∙◌}
-use mathlib.Core.Bool.{Bool, true, false, cond, not, ◌&&◌, and-true}
-use mathlib.Core.List.{List, [], ◌∷◌}
-use Prim.Native.Nat.{ℕ, ◌+◌, ◌<◌}
-use borrow.Author.Tests.{eq-eqb, ne_eqb, ltb-true, ltb-false}
-use lib.Dec.{eqb, ltb}
-use lib.ListN.{length, get_or, drop, drop_of_length-le}
+use Rattle.std.proofs.Common.{◌≡◌, refl, sym, ◌∙◌, Bool, true, false, cond, not, ◌&&◌, List, [], ◌∷◌, ℕ, ◌+◌, ◌<◌, eq-eqb, ne_eqb, ltb-true, ltb-false, eqb, ltb, length, get_or, drop, drop_of_length-le}
+use mathlib.Core.Bool.{and-true}
 use Rattle.laws.specs.Lists.{all, filter}
 use Rattle.laws.specs.Texts.{sameBytes}
 use Rattle.laws.proofs.Slices.{drop-step}

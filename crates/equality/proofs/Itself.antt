@@ -1,11 +1,7 @@
 -- A field equals itself where no tag in it equals nothing: its text is the same as itself, and so on inside.
-use Prim.Native.Nat.{ℕ, ◌<◌}
-use mathlib.Core.Path.{◌≡◌, refl, ◌∙◌}
-use mathlib.Core.Bool.{Bool, true, false, not, ◌&&◌, ◌||◌, beq, and-true, and-false, or-true}
-use mathlib.Core.List.{List, []}
-use native.Mathlib.Omega.{arith}
-use borrow.Author.Tests.{leb-true, leb-false, lt-leb, ne_eqb, eq-eqb}
-use lib.Dec.{T, leb, eqb, leb→le}
+use Rattle.std.proofs.Common.{ℕ, ◌<◌, ◌≡◌, refl, ◌∙◌, Bool, true, false, not, ◌&&◌, ◌||◌, List, [], arith, leb-true, leb-false, ne_eqb, eq-eqb, T, leb, eqb, leb→le}
+use mathlib.Core.Bool.{beq, and-true, and-false, or-true}
+use borrow.Author.Tests.{lt-leb}
 use Rattle.laws.specs.Lists.{filter}
 use Rattle.laws.specs.Texts.{sameBytes}
 use Rattle.laws.proofs.Numbers.{below}

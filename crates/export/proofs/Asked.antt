@@ -1,10 +1,6 @@
 -- A token is told of where the file is short enough, and of a longer one none is.
-use Prim.Native.Nat.{ℕ, ◌<◌, ◌≤◌}
-use mathlib.Core.Path.{◌≡◌, sym, ◌∙◌}
-use mathlib.Core.Bool.{Bool, true, false}
-use mathlib.Core.List.{List}
-use borrow.Author.Tests.{le-leb, lt-leb}
-use lib.ListN.{length}
+use Rattle.std.proofs.Common.{ℕ, ◌<◌, ◌≤◌, ◌≡◌, sym, ◌∙◌, Bool, true, false, List, le-leb, length}
+use borrow.Author.Tests.{lt-leb}
 use Rattle.laws.specs.Texts.{sameBytes}
 use Rattle.export.specs.Token.{isTokenOf}
 

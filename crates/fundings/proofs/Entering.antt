@@ -1,11 +1,7 @@
 -- The entries of a file, one after the other: whoever lists the calls of those that are left has listed all. There are few of
 -- them, since each call takes three bytes at least.
-use Prim.Native.Nat.{ℕ, ◌+◌, ◌-◌, ◌*◌, ◌≤◌}
-use mathlib.Core.Path.{◌≡◌, refl, ◌∙◌}
-use mathlib.Core.Bool.{Bool, true, false, cond}
-use mathlib.Core.List.{List, [], ◌∷◌, ◌++◌, flat_map}
-use native.Mathlib.Omega.{arith}
-use lib.ListN.{length, drop}
+use Rattle.std.proofs.Common.{ℕ, ◌+◌, ◌-◌, ◌*◌, ◌≤◌, ◌≡◌, refl, ◌∙◌, Bool, true, false, cond, List, [], ◌∷◌, ◌++◌, arith, length, drop}
+use mathlib.Core.List.{flat_map}
 use lib.Seq.{length-sets}
 use Rattle.tags.specs.Tag.{Entry}
 use Rattle.fields.specs.Table.{Listed}

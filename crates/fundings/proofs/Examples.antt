@@ -1,8 +1,7 @@
 -- The definitions computed on examples: what funds a map, and when there is one token.
-use Prim.Native.Nat.{ℕ}
+use Rattle.std.proofs.Common.{ℕ, ◌≡◌, refl, List, [], ◌∷◌, ◌++◌, map}
 use Prim.Native.String.{String}
-use mathlib.Core.Path.{◌≡◌, refl}
-use mathlib.Core.List.{List, [], ◌∷◌, ◌++◌, map, flat_map}
+use mathlib.Core.List.{flat_map}
 use Rattle.laws.specs.Lists.{any, all, filter}
 use Rattle.laws.specs.Texts.{sameBytes, bytes, known}
 use Rattle.tags.specs.Tag.{Entry, Parameter, Limits, Guard, ExpressionStatement, InAsset, Member, Call, Checked, Eq, Lt, composite, isExpression, isStatement, isWrapper}

@@ -1,13 +1,8 @@
 -- The calls of a table, one after the other: whoever lists those that are left has listed all.
-use Prim.Native.Nat.{ℕ, ◌+◌, ◌-◌, ◌*◌, ◌%◌, ◌^◌, ◌≤◌, ◌<◌}
-use mathlib.Core.Path.{◌≡◌, refl, sym, ap, ◌∙◌}
-use mathlib.Core.Bool.{Bool, true, false, cond, not, ◌&&◌, ◌||◌}
-use mathlib.Core.List.{List, [], ◌∷◌, ◌++◌, map, flat_map}
-use native.Mathlib.Omega.{arith}
-use native.Mathlib.Nat.{mod-eq_of_lt}
-use borrow.Author.Tests.{not-true, not-false, leb-true}
-use lib.ListN.{length, get_or, take, drop, length-drop, drop_of_length-le}
-use lib.Seq.{take-length, length-take-le, length-sets}
+use Rattle.std.proofs.Common.{ℕ, ◌+◌, ◌-◌, ◌*◌, ◌%◌, ◌^◌, ◌≤◌, ◌<◌, ◌≡◌, refl, sym, ap, ◌∙◌, Bool, true, false, cond, not, ◌&&◌, ◌||◌, List, [], ◌∷◌, ◌++◌, map, arith, mod-eq_of_lt, leb-true, length, get_or, take, drop, length-drop, drop_of_length-le, length-take-le}
+use mathlib.Core.List.{flat_map}
+use borrow.Author.Tests.{not-true, not-false}
+use lib.Seq.{take-length, length-sets}
 use Rattle.laws.proofs.Lists.{Every, no-elements}
 use Rattle.laws.proofs.Slices.{drop-step}
 use Rattle.laws.proofs.Truths.{chosen}

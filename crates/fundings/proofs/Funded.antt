@@ -1,11 +1,5 @@
 -- The calls of an entry's body are all in the table, and only a call can fund a map.
-use Prim.Native.Nat.{ℕ, ◌+◌, ◌*◌, ◌≤◌, ◌<◌}
-use mathlib.Core.Path.{◌≡◌, refl, ap, ◌∙◌}
-use mathlib.Core.Bool.{Bool, true, false}
-use mathlib.Core.List.{List}
-use native.Mathlib.Omega.{arith}
-use borrow.Author.Tests.{leb-true}
-use lib.ListN.{length, get_or, drop}
+use Rattle.std.proofs.Common.{ℕ, ◌+◌, ◌*◌, ◌≤◌, ◌<◌, ◌≡◌, refl, ap, ◌∙◌, Bool, true, false, List, arith, leb-true, length, get_or, drop}
 use Rattle.laws.specs.Lists.{any}
 use Rattle.laws.specs.Texts.{sameBytes}
 use Rattle.laws.proofs.Lists.{any-first, any-map}

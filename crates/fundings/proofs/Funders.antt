@@ -1,11 +1,7 @@
 -- The entries that fund a map, one after the other: the set found so far is that of the tokens named by those that were passed,
 -- and these with the tokens ahead are those of the map.
-use Prim.Native.Nat.{ℕ, ◌-◌, ◌≤◌, ◌<◌}
-use mathlib.Core.Path.{◌≡◌, refl, sym, ap, ◌∙◌}
-use mathlib.Core.Bool.{true, false}
-use mathlib.Core.List.{List, [], ◌++◌, map, flat_map, append-nil, append_assoc}
-use native.Mathlib.Omega.{arith}
-use lib.ListN.{length, drop}
+use Rattle.std.proofs.Common.{ℕ, ◌-◌, ◌≤◌, ◌<◌, ◌≡◌, refl, sym, ap, ◌∙◌, true, false, List, [], ◌++◌, map, append-nil, append_assoc, arith, length, drop}
+use mathlib.Core.List.{flat_map}
 use Rattle.laws.specs.Lists.{filter}
 use Rattle.tags.specs.Tag.{Entry}
 use Rattle.fields.specs.Field.{fields, whole, after, front, fieldsFrom}

@@ -1,13 +1,7 @@
 -- The calls that fund a map are listed behind what is remembered of state fields, which stays as it is.
-use Prim.Native.Nat.{ℕ, ◌+◌, ◌-◌, ◌≤◌, ◌<◌}
-use mathlib.Core.Path.{◌≡◌, refl, sym, ◌∙◌}
-use mathlib.Core.Bool.{Bool, true, false, cond}
-use mathlib.Core.List.{List, [], ◌++◌, append-nil}
-use native.Mathlib.Omega.{arith}
-use borrow.Author.Tests.{ltb-true}
-use lib.Dec.{ltb}
-use lib.ListN.{length, get_or, take, drop, set, length-append, length-drop, length-set, drop_of_length-le, get_or-append}
-use lib.Seq.{get_or-take, get_or-set_same, get_or-set_other, drop-set-lt, drop_at, length-sets, length-take-le}
+use Rattle.std.proofs.Common.{ℕ, ◌+◌, ◌-◌, ◌≤◌, ◌<◌, ◌≡◌, refl, sym, ◌∙◌, Bool, true, false, cond, List, [], ◌++◌, append-nil, arith, ltb-true, ltb, length, get_or, take, drop, set, length-append, length-drop, length-set, drop_of_length-le, get_or-take, get_or-set_same, get_or-set_other, drop-set-lt, drop_at, length-take-le}
+use lib.ListN.{get_or-append}
+use lib.Seq.{length-sets}
 use Rattle.laws.proofs.Slices.{drop-rest}
 use Rattle.fields.specs.Table.{Listed}
 use Rattle.fields.proofs.Tables.{listed-front}

@@ -1,9 +1,6 @@
 -- The token that funds a map shows the bytes where the first entry that funds it names one.
-use Prim.Native.Nat.{ℕ}
-use mathlib.Core.Path.{◌≡◌, refl, ◌∙◌}
-use mathlib.Core.Bool.{Bool, true, false, cond}
-use mathlib.Core.List.{List, [], ◌∷◌, map, flat_map, map-append}
-use lib.ListN.{length}
+use Rattle.std.proofs.Common.{ℕ, ◌≡◌, refl, ◌∙◌, Bool, true, false, cond, List, [], ◌∷◌, map, length}
+use mathlib.Core.List.{flat_map, map-append}
 use lib.Seq.{take-length}
 use Rattle.laws.specs.Lists.{filter}
 use Rattle.laws.proofs.Lists.{Every, every-filter, every-flatMap}

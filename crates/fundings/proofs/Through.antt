@@ -1,13 +1,7 @@
 -- Going through the listed calls joins what the entries with a call of the map name: a second call of an entry adds nothing.
-use Prim.Native.Nat.{ℕ, ◌+◌, ◌-◌, ◌≤◌, ◌<◌}
-use mathlib.Core.Path.{◌≡◌, refl, sym, ap, ◌∙◌}
-use mathlib.Core.Bool.{Bool, true, false, cond, not, ◌&&◌, ◌||◌}
-use mathlib.Core.List.{List, [], ◌∷◌, ◌++◌, map, flat_map}
-use native.Mathlib.Omega.{arith}
+use Rattle.std.proofs.Common.{ℕ, ◌+◌, ◌-◌, ◌≤◌, ◌<◌, ◌≡◌, refl, sym, ap, ◌∙◌, Bool, true, false, cond, not, ◌&&◌, ◌||◌, List, [], ◌∷◌, ◌++◌, map, arith, w64, Fits, length, get_or, take, drop, length-drop}
+use mathlib.Core.List.{flat_map}
 use borrow.Author.Tests.{not-true, not-false}
-use mir.Syntax.{w64}
-use mir.Val.{Fits}
-use lib.ListN.{length, get_or, take, drop, length-drop}
 use Rattle.laws.proofs.Slices.{drop-step}
 use Rattle.laws.proofs.Truths.{either_way}
 use Rattle.laws.proofs.Lists.{Every, every-filter}

@@ -1,12 +1,7 @@
 -- The slots that are left, one by one: the first decides, or is passed over.
-use Prim.Native.Nat.{ℕ, zero, suc, ◌%◌, ◌≤◌, ◌<◌}
-use mathlib.Core.Path.{◌≡◌, refl, sym, ap, ◌∙◌}
-use mathlib.Core.Bool.{Bool, true, false}
-use mathlib.Core.List.{List, [], ◌∷◌}
+use Rattle.std.proofs.Common.{ℕ, zero, suc, ◌%◌, ◌≤◌, ◌<◌, ◌≡◌, refl, sym, ap, ◌∙◌, Bool, true, false, List, [], ◌∷◌, arith, le-leb, length}
 use mathlib.Core.Option.{some}
-use native.Mathlib.Omega.{arith}
-use borrow.Author.Tests.{le-leb, lt-leb}
-use lib.ListN.{length}
+use borrow.Author.Tests.{lt-leb}
 use Rattle.laws.specs.Lists.{all}
 use Rattle.grammar.specs.Grammar.{inClass, advance, complete}
 use Rattle.grammar.specs.Slots.{upToZero, slotList, leftBy}

@@ -1,10 +1,6 @@
 -- The rows of the grammar by their tags: a computed test over all tags, and what the code has tested.
-use Prim.Native.Nat.{ℕ, ◌≤◌, ◌<◌}
-use mathlib.Core.Path.{◌≡◌, refl, ◌∙◌}
-use mathlib.Core.Bool.{Bool, true, false, not, ◌&&◌}
-use mathlib.Core.List.{List, [], ◌∷◌}
-use borrow.Author.Tests.{le-leb, lt-leb, ne_eqb}
-use lib.Dec.{leb, eqb}
+use Rattle.std.proofs.Common.{ℕ, ◌≤◌, ◌<◌, ◌≡◌, refl, ◌∙◌, Bool, true, false, not, ◌&&◌, List, [], ◌∷◌, le-leb, ne_eqb, leb, eqb}
+use borrow.Author.Tests.{lt-leb}
 use Rattle.laws.specs.Texts.{sameBytes}
 use Rattle.laws.proofs.Numbers.{holdsBelow, implies, implied}
 use Rattle.laws.proofs.Texts.{bytes-equal}

@@ -1,12 +1,7 @@
 -- The payouts whose amount contains what comes in: those before i are gone through, and read back they ask for the amounts of the
 -- definition.
-use Prim.Native.Nat.{ℕ, suc, ◌+◌, ◌≤◌, ◌<◌}
-use mathlib.Core.Path.{◌≡◌, refl, sym, ap, ◌∙◌}
-use mathlib.Core.Bool.{Bool, true, false, cond}
-use mathlib.Core.List.{List, [], ◌∷◌, ◌++◌, map}
-use native.Mathlib.Omega.{arith}
-use lib.ListN.{length, get_or, take, drop, length-take}
-use lib.Seq.{take-suc, take_all, length-take-le, length-sets}
+use Rattle.std.proofs.Common.{ℕ, suc, ◌+◌, ◌≤◌, ◌<◌, ◌≡◌, refl, sym, ap, ◌∙◌, Bool, true, false, cond, List, [], ◌∷◌, ◌++◌, map, arith, length, get_or, take, drop, length-take, take-suc, take_all, length-take-le}
+use lib.Seq.{length-sets}
 use Rattle.laws.proofs.Lists.{filter-append}
 use Rattle.laws.specs.Lists.{filter}
 use Rattle.fields.specs.Table.{Listed}

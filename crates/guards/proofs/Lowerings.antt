@@ -1,15 +1,9 @@
 -- A statement that lowers a field by an amount has the field as its target, so where the amount is asked for, it is one of the
 -- lowerings. Each takes nine bytes at least, so that a table with a number for each three bytes of the file has room for all.
-use Prim.Native.Nat.{ℕ, ◌+◌, ◌*◌, ◌%◌, ◌≤◌, ◌<◌}
-use mathlib.Core.Path.{◌≡◌, refl, sym, ◌∙◌}
-use mathlib.Core.Bool.{Bool, true, false, cond, not, ◌&&◌, and-false}
-use mathlib.Core.List.{List, [], ◌∷◌, ◌++◌, map, flat_map}
-use native.Mathlib.Omega.{arith}
-use native.Mathlib.Nat.{mod-eq_of_lt}
-use borrow.Author.Tests.{leb-true, le-leb}
-use lib.Dec.{eqb, leb}
-use lib.ListN.{length, take, drop, length-append, length-drop}
-use lib.Seq.{length-take-le, length-sets}
+use Rattle.std.proofs.Common.{ℕ, ◌+◌, ◌*◌, ◌%◌, ◌≤◌, ◌<◌, ◌≡◌, refl, sym, ◌∙◌, Bool, true, false, cond, not, ◌&&◌, List, [], ◌∷◌, ◌++◌, map, arith, mod-eq_of_lt, leb-true, le-leb, eqb, leb, length, take, drop, length-append, length-drop, length-take-le}
+use mathlib.Core.Bool.{and-false}
+use mathlib.Core.List.{flat_map}
+use lib.Seq.{length-sets}
 use Rattle.laws.proofs.Truths.{chosen, and_left, and_right}
 use Rattle.laws.proofs.Texts.{bytes-equal}
 use Rattle.laws.specs.Texts.{sameBytes}

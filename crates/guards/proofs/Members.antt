@@ -1,14 +1,8 @@
 -- Only a member can be `p.amount`, so a table of the members in an amount has all that matter. An asset parameter without a
 -- name is the exception: what is no `p.amount` names it.
-use Prim.Native.Nat.{ℕ, ◌+◌, ◌*◌, ◌≤◌}
-use mathlib.Core.Path.{◌≡◌, refl, sym, ◌∙◌}
-use mathlib.Core.Bool.{Bool, true, false, cond, ◌&&◌}
-use mathlib.Core.List.{List, [], ◌∷◌, ◌++◌, map-append}
-use native.Mathlib.Omega.{arith}
-use borrow.Author.Tests.{leb-true, eqb-true}
-use lib.Dec.{eqb}
-use lib.ListN.{length, take}
-use lib.Seq.{length-take-le, length-sets}
+use Rattle.std.proofs.Common.{ℕ, ◌+◌, ◌*◌, ◌≤◌, ◌≡◌, refl, sym, ◌∙◌, Bool, true, false, cond, ◌&&◌, List, [], ◌∷◌, ◌++◌, arith, leb-true, eqb-true, eqb, length, take, length-take-le}
+use mathlib.Core.List.{map-append}
+use lib.Seq.{length-sets}
 use Rattle.laws.proofs.Seeking.{Seeking}
 use Rattle.laws.specs.Texts.{sameBytes, bytes}
 use Rattle.laws.specs.Lists.{any, filter}

@@ -1,10 +1,5 @@
 -- A payout's amount as the code reads it: no longer than what it stands in, and among those that are asked for.
-use Prim.Native.Nat.{ℕ, ◌≤◌, ◌<◌}
-use mathlib.Core.Path.{◌≡◌, ◌∙◌}
-use mathlib.Core.Bool.{Bool, true, false}
-use mathlib.Core.List.{List}
-use native.Mathlib.Omega.{arith}
-use lib.ListN.{length, get_or, take, drop, length-take, length-drop}
+use Rattle.std.proofs.Common.{ℕ, ◌≤◌, ◌<◌, ◌≡◌, ◌∙◌, Bool, true, false, List, arith, length, get_or, take, drop, length-take, length-drop}
 use Rattle.laws.specs.Lists.{any}
 use Rattle.laws.specs.Texts.{sameBytes, bytes}
 use Rattle.laws.proofs.Lists.{any-map, any-among}

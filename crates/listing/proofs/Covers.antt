@@ -1,10 +1,6 @@
 -- The lines of an entry's covers by their bytes: kind and index are read back, and the lines are written one behind the other.
-use Prim.Native.Nat.{ℕ, zero, suc, ◌+◌, ◌*◌, ◌≤◌, ◌<◌}
-use mathlib.Core.Path.{◌≡◌, refl, sym, ap, ◌∙◌}
-use mathlib.Core.List.{List, [], ◌∷◌, ◌++◌, flat_map}
-use native.Mathlib.Omega.{arith}
-use lib.ListN.{length, get_or, take, length-take}
-use lib.Seq.{take_all, take-suc}
+use Rattle.std.proofs.Common.{ℕ, zero, suc, ◌+◌, ◌*◌, ◌≤◌, ◌<◌, ◌≡◌, refl, sym, ap, ◌∙◌, List, [], ◌∷◌, ◌++◌, arith, length, get_or, take, length-take, take_all, take-suc}
+use mathlib.Core.List.{flat_map}
 use Rattle.laws.specs.Lists.{numbered}
 use Rattle.matching.specs.Matching.{Cover}
 use Rattle.matching.specs.Matching.Cover.{reserve}

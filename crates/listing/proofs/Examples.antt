@@ -1,8 +1,7 @@
 -- Listings computed from the definitions, as bytes.
-use Prim.Native.Nat.{ℕ}
+use Rattle.std.proofs.Common.{ℕ, ◌≡◌, refl, List, [], ◌∷◌, ◌++◌}
 use Prim.Native.String.{String}
-use mathlib.Core.Path.{◌≡◌, refl}
-use mathlib.Core.List.{List, [], ◌∷◌, ◌++◌, flat_map}
+use mathlib.Core.List.{flat_map}
 use Rattle.laws.specs.Texts.{bytes}
 use Rattle.fields.proofs.Writing.{integer, times}
 use Rattle.claim.specs.Verdict.{kind, index, spare}

@@ -1,6 +1,5 @@
 -- The pieces of a line, written one behind the other, are the line.
-use Prim.Native.Nat.{ℕ}
-use mathlib.Core.List.{List, [], ◌∷◌, ◌++◌, append_assoc}
+use Rattle.std.proofs.Common.{ℕ, List, [], ◌∷◌, ◌++◌, append_assoc}
 use Rattle.output.specs.Output.{Written}
 use Rattle.listing.specs.Decimal.{decimal, twoOf, threeOf}
 use Rattle.output.proofs.Buffer.{written_then}

@@ -1,10 +1,7 @@
 -- Two payouts of equal amounts have the same equal backings, two of other amounts none in common: equality is symmetric and
 -- transitive.
-use Prim.Native.Nat.{zero, suc}
-use native.Mathlib.Omega.{arith}
-use mathlib.Core.Path.{◌≡◌, ◌∙◌, fun_ext}
-use mathlib.Core.Bool.{Bool, true, false}
-use borrow.Author.Tests.{le-leb}
+use Rattle.std.proofs.Common.{zero, suc, arith, ◌≡◌, ◌∙◌, Bool, true, false, le-leb}
+use mathlib.Core.Path.{fun_ext}
 use Rattle.laws.proofs.Truths.{agree, refuted}
 use Rattle.tags.specs.Tag.{composite, isWrapper}
 use Rattle.fields.specs.Field.{Field}

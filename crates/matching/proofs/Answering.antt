@@ -1,12 +1,7 @@
 -- Each step of the answer is the definition's: the search finds what the definition finds, or leaves the rest to the next step.
-use Prim.Native.Nat.{ℕ, ◌-◌, ◌≤◌, ◌<◌}
-use mathlib.Core.Path.{◌≡◌, refl, sym, ap, ◌∙◌}
-use mathlib.Core.Bool.{Bool, true, false, not}
-use mathlib.Core.List.{List}
-use mathlib.Core.Option.{Option, none, some}
-use borrow.Author.Tests.{lt-ltb, le-ltb, not-true, not-false}
-use lib.Dec.{eqb, ltb}
-use lib.ListN.{get_or, drop}
+use Rattle.std.proofs.Common.{ℕ, ◌-◌, ◌≤◌, ◌<◌, ◌≡◌, refl, sym, ap, ◌∙◌, Bool, true, false, not, List, Option, lt-ltb, le-ltb, eqb, ltb, get_or, drop}
+use mathlib.Core.Option.{none, some}
+use borrow.Author.Tests.{not-true, not-false}
 use Rattle.laws.specs.Texts.{sameBytes}
 use Rattle.laws.specs.Numbers.{downFrom}
 use Rattle.laws.specs.Lists.{any, find, position}

@@ -1,6 +1,5 @@
 -- The code's cases are the definition's.
-use Prim.Native.Nat.{ℕ, ◌+◌}
-use mathlib.Core.Path.{◌≡◌, refl}
+use Rattle.std.proofs.Common.{ℕ, ◌+◌, ◌≡◌, refl}
 use Rattle.backings.specs.Marked.{without, withUsed}
 use Rattle.backings.specs.declared.marks.Marks.{Marks as Coded}
 use Rattle.matching.specs.Matching as matching

@@ -1,8 +1,7 @@
 -- The definitions computed on examples: what covers each payout of an entry, or why one is rejected.
-use Prim.Native.Nat.{ℕ}
+use Rattle.std.proofs.Common.{ℕ, ◌≡◌, refl, List, [], ◌∷◌, ◌++◌, map}
 use Prim.Native.String.{String}
-use mathlib.Core.Path.{◌≡◌, refl}
-use mathlib.Core.List.{List, [], ◌∷◌, ◌++◌, map, flat_map}
+use mathlib.Core.List.{flat_map}
 use mathlib.Core.Option.{none, some}
 use Rattle.laws.specs.Lists.{any, all, filter, find, removeFirst, position, numbered}
 use Rattle.laws.specs.Texts.{sameBytes, known}

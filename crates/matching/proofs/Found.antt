@@ -1,13 +1,7 @@
 -- What a search by number finds is what the definition finds among the free backings, or the taken ones.
-use Prim.Native.Nat.{ℕ, ◌+◌, ◌-◌, ◌≤◌, ◌<◌}
-use mathlib.Core.Path.{◌≡◌, refl, sym, ap, ◌∙◌, fun_ext}
-use mathlib.Core.Bool.{Bool, true, false, cond, not, ◌&&◌, ◌||◌}
-use mathlib.Core.List.{List, [], ◌∷◌, map}
-use mathlib.Core.Option.{Option, none, some}
-use native.Mathlib.Omega.{arith}
-use borrow.Author.Tests.{ltb-true, ltb-false}
-use lib.Dec.{ltb}
-use lib.ListN.{length, get_or}
+use Rattle.std.proofs.Common.{ℕ, ◌+◌, ◌-◌, ◌≤◌, ◌<◌, ◌≡◌, refl, sym, ap, ◌∙◌, Bool, true, false, cond, not, ◌&&◌, ◌||◌, List, [], ◌∷◌, map, Option, arith, ltb-true, ltb-false, ltb, length, get_or}
+use mathlib.Core.Path.{fun_ext}
+use mathlib.Core.Option.{none, some}
 use Rattle.laws.proofs.Finding.{any_some, any-not-found}
 use Rattle.laws.proofs.Lists.{any-map}
 use Rattle.laws.specs.Numbers.{chosenBy, firstFrom}

@@ -1,16 +1,9 @@
 -- The marks that the code hands back stand for those of the definition: a backing that is taken loses its mark and joins the
 -- taken ones, a reserve joins the used ones, and the order of the taken amounts makes no difference to the answer.
-use Prim.Native.Nat.{ℕ, zero, suc, ◌+◌, ◌-◌, ◌≤◌, ◌<◌}
-use mathlib.Core.Path.{◌≡◌, refl, sym, ap, ◌∙◌}
-use mathlib.Core.Bool.{Bool, true, false, cond, not, ◌||◌}
-use mathlib.Core.List.{List, [], ◌∷◌, map}
-use mathlib.Core.Option.{Option, none, some}
-use native.Mathlib.Omega.{arith}
-use native.Mathlib.Numerals.{add-one}
-use borrow.Author.Tests.{lt-ltb, le-ltb, ltb-true, ltb-false}
-use lib.Dec.{eqb, ltb}
-use lib.ListN.{length, get_or, set, length-set, length-replicate, get_or-replicate, get_or-eq_default}
-use lib.Seq.{set_out, get_or-set_same, get_or-set_other}
+use Rattle.std.proofs.Common.{ℕ, zero, suc, ◌+◌, ◌-◌, ◌≤◌, ◌<◌, ◌≡◌, refl, sym, ap, ◌∙◌, Bool, true, false, cond, not, ◌||◌, List, [], ◌∷◌, map, Option, arith, add-one, lt-ltb, le-ltb, ltb-true, ltb-false, eqb, ltb, length, get_or, set, length-set, get_or-set_same, get_or-set_other}
+use mathlib.Core.Option.{none, some}
+use lib.ListN.{length-replicate, get_or-replicate, get_or-eq_default}
+use lib.Seq.{set_out}
 use Rattle.laws.specs.Numbers.{chosenBy, firstFrom, downFrom}
 use Rattle.laws.specs.Lists.{any, find, removeFirst}
 use Rattle.laws.proofs.Truths.{and_left}

@@ -1,10 +1,6 @@
 -- The definition's steps, one at a time: a search that finds something decides, and one that finds nothing leaves the rest.
-use mathlib.Core.Path.{◌≡◌}
-use mathlib.Core.Bool.{Bool, true, false}
-use mathlib.Core.List.{List, ◌∷◌}
+use Rattle.std.proofs.Common.{◌≡◌, Bool, true, false, List, ◌∷◌, ℕ, eqb}
 use mathlib.Core.Option.{none, some}
-use Prim.Native.Nat.{ℕ}
-use lib.Dec.{eqb}
 use Rattle.laws.specs.Lists.{any, find, removeFirst, position}
 use Rattle.laws.specs.Texts.{sameBytes}
 use Rattle.fields.specs.Field.{Field, Fields}

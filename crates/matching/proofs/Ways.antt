@@ -1,10 +1,7 @@
 -- The covers that a payout may get: an equal backing, a bounding one or a reserve, each with what had to be so before.
-use Prim.Native.Nat.{ℕ}
-use mathlib.Core.Path.{◌≡◌, refl}
-use mathlib.Core.Bool.{Bool, true, false, false≢true}
-use mathlib.Core.List.{List, ◌∷◌}
-use mathlib.Core.Option.{Option, none, some}
-use lib.Dec.{eqb}
+use Rattle.std.proofs.Common.{ℕ, ◌≡◌, refl, Bool, true, false, List, ◌∷◌, Option, eqb}
+use mathlib.Core.Bool.{false≢true}
+use mathlib.Core.Option.{none, some}
 use Rattle.laws.specs.Lists.{any, find, removeFirst, position}
 use Rattle.laws.specs.Texts.{sameBytes}
 use Rattle.fields.specs.Field.{Field, Fields}

@@ -1,13 +1,7 @@
 -- The answer for a payout, with the marks after it: each way that the definition goes, the code's answer is the same with the
 -- marks in any order, and the marks that the code hands back stand for the definition's.
-use Prim.Native.Nat.{ℕ, ◌+◌, ◌-◌, ◌≤◌, ◌<◌}
-use mathlib.Core.Path.{◌≡◌, refl, sym, ap, ◌∙◌}
-use mathlib.Core.Bool.{Bool, true, false, cond}
-use mathlib.Core.List.{List}
-use mathlib.Core.Option.{Option, none, some}
-use native.Mathlib.Omega.{arith}
-use borrow.Author.Tests.{ltb-true, ltb-false}
-use lib.Dec.{eqb, ltb}
+use Rattle.std.proofs.Common.{ℕ, ◌+◌, ◌-◌, ◌≤◌, ◌<◌, ◌≡◌, refl, sym, ap, ◌∙◌, Bool, true, false, cond, List, Option, arith, ltb-true, ltb-false, eqb, ltb}
+use mathlib.Core.Option.{none, some}
 use Rattle.laws.specs.Lists.{any, find, position}
 use Rattle.laws.specs.Numbers.{firstFrom}
 use Rattle.laws.specs.Texts.{sameBytes}

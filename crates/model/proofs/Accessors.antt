@@ -1,10 +1,5 @@
 -- The n-th of a class is what its accessor's answer starts with.
-use Prim.Native.Nat.{ℕ, zero, suc, ◌-◌}
-use mathlib.Core.Path.{◌≡◌, refl, ap, ◌∙◌}
-use mathlib.Core.Bool.{Bool, true, false}
-use mathlib.Core.List.{List, [], ◌∷◌, map}
-use native.Mathlib.Nat.{zero-add}
-use lib.ListN.{length, get_or, take, drop}
+use Rattle.std.proofs.Common.{ℕ, zero, suc, ◌-◌, ◌≡◌, refl, ap, ◌∙◌, Bool, true, false, List, [], ◌∷◌, map, zero-add, length, get_or, take, drop}
 use Rattle.fields.specs.Field.{Field, fields, whole, front, part, parts, nth, nothing, fieldsFrom, placedFrom, fromNth}
 use Rattle.fields.proofs.Rows.{rest_of, nth-placed, nth-of-row}
 use Rattle.model.specs.Shown.{shown}

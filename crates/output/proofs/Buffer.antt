@@ -1,14 +1,6 @@
 -- Writing into a buffer: what is written first and what is written then is written, and what has no room stays out.
-use Prim.Native.Nat.{ℕ, suc, ◌+◌, ◌≤◌, ◌<◌}
-use mathlib.Core.Path.{◌≡◌, refl, sym, ◌∙◌}
-use mathlib.Core.Bool.{Bool, true, false}
-use mathlib.Core.List.{List, [], ◌∷◌, ◌++◌}
-use native.Mathlib.Omega.{arith}
-use native.Mathlib.Numerals.{add-one}
-use borrow.Author.Tests.{leb-true, leb-false}
-use lib.Dec.{leb}
-use lib.ListN.{length, get_or, set, take, length-append}
-use lib.Seq.{sets, set_out, length-sets, take_all, take-suc}
+use Rattle.std.proofs.Common.{ℕ, ◌+◌, ◌≤◌, ◌<◌, ◌≡◌, refl, sym, ◌∙◌, Bool, true, false, List, [], ◌∷◌, ◌++◌, arith, add-one, leb-true, leb-false, leb, length, get_or, set, take, length-append, take_all, take-suc}
+use lib.Seq.{sets, set_out, length-sets}
 use Rattle.laws.proofs.Tables.{sets-append, sets-out}
 use Rattle.output.specs.Output.{Written}
 

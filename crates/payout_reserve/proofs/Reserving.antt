@@ -1,12 +1,10 @@
 -- A payout that is not there asks for no token, so that no state field covers it; one that is there stands at its place in the
 -- table, which has room for all.
-use Prim.Native.Nat.{ℕ, ◌*◌, ◌≤◌, ◌<◌}
-use mathlib.Core.Path.{◌≡◌, refl, ap, ◌∙◌}
-use mathlib.Core.Bool.{true, false, ◌&&◌, and-false}
-use mathlib.Core.List.{List, [], flat_map}
+use Rattle.std.proofs.Common.{ℕ, ◌*◌, ◌≤◌, ◌<◌, ◌≡◌, refl, ap, ◌∙◌, true, false, ◌&&◌, List, [], arith, length, get_or, set, replicate, take}
+use mathlib.Core.Bool.{and-false}
+use mathlib.Core.List.{flat_map}
 use mathlib.Core.Option.{none}
-use native.Mathlib.Omega.{arith}
-use lib.ListN.{length, get_or, set, replicate, take, length-replicate, get_or-eq_default}
+use lib.ListN.{length-replicate, get_or-eq_default}
 use Rattle.laws.specs.Texts.{known, sameBytes}
 use Rattle.laws.specs.Lists.{any, filter}
 use Rattle.laws.proofs.Finding.{find_none}

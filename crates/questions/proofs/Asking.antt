@@ -1,14 +1,6 @@
 -- The questions of a field by its tag and content, and of a row of fields one at a time.
-use Prim.Native.Nat.{ℕ, suc, ◌+◌, ◌-◌, ◌*◌, ◌≤◌, ◌<◌}
-use mathlib.Core.Path.{◌≡◌, refl, sym, ap, ap₂, ◌∙◌}
-use mathlib.Core.Bool.{Bool, true, false, cond, not, ◌&&◌, ◌||◌}
-use mathlib.Core.List.{List, [], ◌∷◌}
+use Rattle.std.proofs.Common.{ℕ, suc, ◌+◌, ◌-◌, ◌*◌, ◌≤◌, ◌<◌, ◌≡◌, refl, sym, ap, ap₂, ◌∙◌, Bool, true, false, cond, not, ◌&&◌, ◌||◌, List, [], ◌∷◌, arith, add-zero, leb-true, leb-false, lt-ltb, le-ltb, ltb-false, leb, ltb, length, take, drop}
 use mathlib.Core.Option.{none, some}
-use native.Mathlib.Omega.{arith}
-use native.Mathlib.Nat.{add-zero}
-use borrow.Author.Tests.{leb-true, leb-false, lt-ltb, le-ltb, ltb-false}
-use lib.Dec.{leb, ltb}
-use lib.ListN.{length, take, drop}
 use Rattle.laws.specs.Lists.{all}
 use Rattle.laws.specs.Texts.{known}
 use Rattle.laws.proofs.Numbers.{implied}

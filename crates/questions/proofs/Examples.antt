@@ -1,8 +1,5 @@
 -- Questions 1 to 8 computed: each number with its place, and each boundary on both sides.
-use Prim.Native.Nat.{ℕ}
-use mathlib.Core.Path.{◌≡◌, refl}
-use mathlib.Core.List.{List, [], ◌∷◌, ◌++◌, map}
-use lib.ListN.{replicate}
+use Rattle.std.proofs.Common.{ℕ, ◌≡◌, refl, List, [], ◌∷◌, ◌++◌, map, replicate}
 use Rattle.laws.specs.Lists.{any, all, filter}
 use Rattle.laws.specs.Texts.{sameBytes, known}
 use Rattle.tags.specs.Tag.{State, Genesis, Entry, Parameter, Limits, Denies, Guard, Let, Emit, Set, ExpressionStatement, Name}

@@ -1,15 +1,6 @@
 -- Question 7 along the file: the names that came earlier are those of the bytes before, and the table shows them.
-use Prim.Native.Nat.{ℕ, ◌+◌, ◌-◌, ◌^◌, ◌≤◌, ◌<◌}
-use mathlib.Core.Path.{◌≡◌, refl, sym, ap, ◌∙◌}
-use mathlib.Core.Bool.{Bool, true, false, cond, not, ◌&&◌}
-use mathlib.Core.List.{List, [], ◌∷◌, ◌++◌, map, append-nil, map-append}
-use native.Mathlib.Omega.{arith}
-use borrow.Author.Tests.{leb-true}
-use mir.Syntax.{w64}
-use mir.Val.{Fits}
-use lib.Dec.{eqb}
-use lib.ListN.{length, take, drop, length-drop}
-use lib.Seq.{drop-drop}
+use Rattle.std.proofs.Common.{ℕ, ◌+◌, ◌-◌, ◌^◌, ◌≤◌, ◌<◌, ◌≡◌, refl, sym, ap, ◌∙◌, Bool, true, false, cond, not, ◌&&◌, List, [], ◌∷◌, ◌++◌, map, append-nil, arith, leb-true, w64, Fits, eqb, length, take, drop, length-drop, drop-drop}
+use mathlib.Core.List.{map-append}
 use Rattle.laws.specs.Lists.{any, filter}
 use Rattle.laws.specs.Texts.{sameBytes}
 use Rattle.tags.specs.Tag.{State, between}

@@ -1,14 +1,9 @@
 -- A number that is noted is shown from then on: its place holds its note, or that several share the place.
-use Prim.Native.Nat.{ℕ, ◌+◌, ◌/◌, ◌%◌, ◌≤◌, ◌<◌}
-use mathlib.Core.Path.{◌≡◌, refl, sym}
-use mathlib.Core.Bool.{Bool, true, false, cond, ◌||◌, or-true, or-false}
-use mathlib.Core.List.{List, [], ◌∷◌, ◌++◌, append-nil}
-use native.Mathlib.Omega.{arith}
-use native.Mathlib.Nat.{mod-lt}
-use borrow.Author.Tests.{eq-eqb, ne_eqb, eqb-true, eqb-false, ltb-true, ltb-false}
-use lib.Dec.{eqb, ltb}
-use lib.ListN.{length, get_or, set, length-set, get_or-eq_default}
-use lib.Seq.{drop-cons, set_out, get_or-set_same, get_or-set_other}
+use Rattle.std.proofs.Common.{ℕ, ◌+◌, ◌/◌, ◌%◌, ◌≤◌, ◌<◌, ◌≡◌, refl, sym, Bool, true, false, cond, ◌||◌, List, [], ◌∷◌, ◌++◌, append-nil, arith, mod-lt, eq-eqb, ne_eqb, eqb-true, ltb-true, ltb-false, eqb, ltb, length, get_or, set, length-set, drop-cons, get_or-set_same, get_or-set_other}
+use mathlib.Core.Bool.{or-true, or-false}
+use borrow.Author.Tests.{eqb-false}
+use lib.ListN.{get_or-eq_default}
+use lib.Seq.{set_out}
 use Rattle.laws.specs.Lists.{any}
 use Rattle.laws.specs.Texts.{sameBytes}
 use Rattle.laws.proofs.Lists.{any_append}

@@ -1,9 +1,6 @@
 -- The definitions computed on examples: what zero is, where a state field starts, what raises it and by what.
-use Prim.Native.Nat.{ℕ}
+use Rattle.std.proofs.Common.{ℕ, ◌≡◌, refl, Bool, true, false, List, [], ◌∷◌, ◌++◌, map}
 use Prim.Native.String.{String}
-use mathlib.Core.Path.{◌≡◌, refl}
-use mathlib.Core.Bool.{Bool, true, false}
-use mathlib.Core.List.{List, [], ◌∷◌, ◌++◌, map}
 use Rattle.laws.specs.Lists.{all, filter}
 use Rattle.laws.specs.Texts.{sameBytes, bytes}
 use Rattle.tags.specs.Tag.{State, Genesis, Set, AddTo, SubtractFrom, String as Text, Checked, Wrapping, Add, Sub, Mul, composite, isAssign, isWrapper}

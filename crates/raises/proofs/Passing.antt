@@ -1,8 +1,5 @@
 -- Whether all fields of a range of tags pass a test: those that were passed over do, so those ahead decide.
-use Prim.Native.Nat.{ℕ}
-use mathlib.Core.Path.{◌≡◌}
-use mathlib.Core.Bool.{Bool, true, false}
-use mathlib.Core.List.{List}
+use Rattle.std.proofs.Common.{ℕ, ◌≡◌, Bool, true, false, List}
 use Rattle.laws.specs.Lists.{all}
 use Rattle.fields.specs.Field.{Field, fields, whole, after, front, from, fieldsFrom}
 use Rattle.fields.proofs.Rows.{ahead, from_row}

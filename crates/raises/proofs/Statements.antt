@@ -1,9 +1,6 @@
 -- The raises of an entry are the statements that raise the field.
-use Prim.Native.Nat.{ℕ}
-use mathlib.Core.Path.{◌≡◌, refl}
-use mathlib.Core.Bool.{Bool, true, false, cond, not, ◌&&◌, ◌||◌}
-use mathlib.Core.List.{List, [], ◌∷◌, map, flat_map}
-use lib.Dec.{eqb}
+use Rattle.std.proofs.Common.{ℕ, ◌≡◌, refl, Bool, true, false, cond, not, ◌&&◌, ◌||◌, List, [], ◌∷◌, map, eqb}
+use mathlib.Core.List.{flat_map}
 use Rattle.laws.specs.Lists.{filter}
 use Rattle.tags.specs.Tag.{SubtractFrom, Add, Sub}
 use Rattle.fields.specs.Field.{Field, tag, part}

@@ -1,8 +1,5 @@
 -- The defaults and the genesis values that are asked are those of the state fields and statements that are gone through.
-use Prim.Native.Nat.{ℕ}
-use mathlib.Core.Path.{◌≡◌, refl}
-use mathlib.Core.Bool.{Bool, true, false, cond, ◌&&◌}
-use mathlib.Core.List.{List, [], ◌∷◌, map}
+use Rattle.std.proofs.Common.{ℕ, ◌≡◌, refl, Bool, true, false, cond, ◌&&◌, List, [], ◌∷◌, map}
 use Rattle.laws.specs.Lists.{all, filter}
 use Rattle.laws.specs.Texts.{sameBytes}
 use Rattle.tags.specs.Tag.{State, Genesis}

@@ -1,12 +1,7 @@
 -- The calls of an entry's body are all in the table, and a test that only a call passes needs no others.
-use Prim.Native.Nat.{ℕ, ◌+◌, ◌*◌, ◌≤◌, ◌<◌}
-use mathlib.Core.Path.{◌≡◌, refl, sym, ◌∙◌}
-use mathlib.Core.Bool.{Bool, true, false, cond, not, and-true, and-false}
-use mathlib.Core.List.{List, [], ◌∷◌}
-use native.Mathlib.Omega.{arith}
+use Rattle.std.proofs.Common.{ℕ, ◌+◌, ◌*◌, ◌≤◌, ◌<◌, ◌≡◌, refl, sym, ◌∙◌, Bool, true, false, cond, not, List, [], ◌∷◌, arith, eqb, length, get_or, take, drop, drop_of_length-le}
+use mathlib.Core.Bool.{and-true, and-false}
 use borrow.Author.Tests.{not-true, not-false}
-use lib.Dec.{eqb}
-use lib.ListN.{length, get_or, take, drop, drop_of_length-le}
 use Rattle.laws.specs.Texts.{sameBytes}
 use Rattle.laws.specs.Lists.{any, filter}
 use Rattle.laws.proofs.Truths.{and_left}

@@ -1,8 +1,7 @@
 -- The definitions computed on examples: which token a state field holds.
-use Prim.Native.Nat.{ℕ}
+use Rattle.std.proofs.Common.{ℕ, ◌≡◌, refl, List, [], ◌∷◌, ◌++◌, map}
 use Prim.Native.String.{String}
-use mathlib.Core.Path.{◌≡◌, refl}
-use mathlib.Core.List.{List, [], ◌∷◌, ◌++◌, map, flat_map}
+use mathlib.Core.List.{flat_map}
 use Rattle.laws.specs.Lists.{any, all, filter, find}
 use Rattle.laws.specs.Texts.{sameBytes, bytes, known}
 use Rattle.tags.specs.Tag.{State, Entry, Parameter, Limits, Guard, AddTo, SubtractFrom, ExpressionStatement, Caller, InAsset, Member, Call, Checked, And, Eq, Ne, composite, isAssign, isExpression, isStatement, isWrapper}

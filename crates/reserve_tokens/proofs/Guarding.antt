@@ -1,12 +1,6 @@
 -- The guards of an entry, one after the other: each stands in the file, and a second token leaves none, be it the same or not.
-use Prim.Native.Nat.{ℕ, ◌+◌, ◌-◌, ◌≤◌}
-use mathlib.Core.Path.{◌≡◌, refl, ◌∙◌}
-use mathlib.Core.Bool.{Bool, true, false, not, ◌&&◌}
-use mathlib.Core.List.{List, [], ◌∷◌, map}
-use native.Mathlib.Omega.{arith}
-use borrow.Author.Tests.{eqb-true, eqb-false}
-use lib.Dec.{eqb}
-use lib.ListN.{length, take, drop, length-take, length-drop}
+use Rattle.std.proofs.Common.{ℕ, ◌+◌, ◌-◌, ◌≤◌, ◌≡◌, refl, ◌∙◌, Bool, true, false, not, ◌&&◌, List, [], ◌∷◌, map, arith, eqb-true, eqb, length, take, drop, length-take, length-drop}
+use borrow.Author.Tests.{eqb-false}
 use Rattle.laws.specs.Lists.{filter}
 use Rattle.laws.specs.Texts.{known}
 use Rattle.laws.proofs.Lists.{Every, every-filter}

@@ -1,13 +1,6 @@
 -- The token of each raise and the one found so far: an unknown one leaves none, one that differs neither, and one that is the
 -- same changes nothing.
-use Prim.Native.Nat.{ℕ, ◌≤◌}
-use mathlib.Core.Path.{◌≡◌, refl, sym, ◌∙◌}
-use mathlib.Core.Bool.{Bool, true, false, cond, not}
-use mathlib.Core.List.{List, [], ◌∷◌}
-use native.Mathlib.Omega.{arith}
-use borrow.Author.Tests.{ltb-true, ltb-false}
-use lib.Dec.{ltb}
-use lib.ListN.{length}
+use Rattle.std.proofs.Common.{ℕ, ◌≤◌, ◌≡◌, refl, sym, ◌∙◌, Bool, true, false, cond, not, List, [], ◌∷◌, arith, ltb-true, ltb-false, ltb, length}
 use Rattle.laws.specs.Lists.{all}
 use Rattle.laws.specs.Texts.{known, sameBytes}
 use Rattle.laws.proofs.Texts.{bytes-equal, bytes_same, unknown, is_known, same-unknown}

@@ -1,12 +1,8 @@
 -- The token of a raise is that of a debit's map or of a guard, and those of all raises are found entry by entry, statement by
 -- statement.
-use Prim.Native.Nat.{ℕ}
-use mathlib.Core.Path.{◌≡◌, refl, sym, ap}
-use mathlib.Core.Bool.{Bool, true, false, cond, ◌&&◌}
-use mathlib.Core.List.{List, [], ◌∷◌, ◌++◌, map, flat_map}
+use Rattle.std.proofs.Common.{ℕ, ◌≡◌, refl, sym, ap, Bool, true, false, cond, ◌&&◌, List, [], ◌∷◌, ◌++◌, map, arith, eqb-true}
+use mathlib.Core.List.{flat_map}
 use mathlib.Core.Option.{none, some}
-use native.Mathlib.Omega.{arith}
-use borrow.Author.Tests.{eqb-true}
 use Rattle.laws.specs.Lists.{filter, find, any}
 use Rattle.laws.proofs.Lists.{filter_none}
 use Rattle.tags.specs.Tag.{Entry, Call}

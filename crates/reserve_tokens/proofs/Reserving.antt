@@ -1,12 +1,8 @@
 -- Entry by entry, and in each raise by raise: the token agreed on so far and those of the raises ahead have the one token of all, and
 -- the map that was looked up last has the token agreed on.
-use Prim.Native.Nat.{ℕ, ◌-◌, ◌*◌, ◌≤◌, ◌<◌}
-use mathlib.Core.Path.{◌≡◌, refl, sym, ◌∙◌}
-use mathlib.Core.Bool.{Bool, true, false, cond, not}
-use mathlib.Core.List.{List, [], ◌∷◌, ◌++◌, map, flat_map}
-use native.Mathlib.Omega.{arith}
-use borrow.Author.Tests.{eq-eqb, ne_eqb, not-true, not-false}
-use lib.ListN.{length, take, drop, drop_of_length-le}
+use Rattle.std.proofs.Common.{ℕ, ◌-◌, ◌*◌, ◌≤◌, ◌<◌, ◌≡◌, refl, sym, ◌∙◌, Bool, true, false, cond, not, List, [], ◌∷◌, ◌++◌, map, arith, eq-eqb, ne_eqb, length, take, drop, drop_of_length-le}
+use mathlib.Core.List.{flat_map}
+use borrow.Author.Tests.{not-true, not-false}
 use Rattle.laws.specs.Texts.{known}
 use Rattle.laws.specs.Lists.{any, filter}
 use Rattle.tags.specs.Tag.{Entry, Guard, ExpressionStatement, Call}

@@ -1,14 +1,9 @@
 -- A guard that counts has an expression in it, so the two numbers that are written of it take six bytes of the file, and a
 -- table of one number for each three bytes of a file has room for all.
-use Prim.Native.Nat.{ℕ, ◌+◌, ◌-◌, ◌*◌, ◌^◌, ◌%◌, ◌≤◌, ◌<◌}
-use mathlib.Core.Path.{◌≡◌, refl, sym, ◌∙◌}
-use mathlib.Core.Bool.{Bool, true, false, cond, not, ◌&&◌, and-false}
-use mathlib.Core.List.{List, [], ◌∷◌, map, flat_map}
-use native.Mathlib.Omega.{arith}
-use native.Mathlib.Nat.{mod-eq_of_lt}
-use borrow.Author.Tests.{eq-eqb, ne_eqb, leb-true}
-use lib.Dec.{eqb}
-use lib.ListN.{length, take, drop, length-append, length-drop, length-map}
+use Rattle.std.proofs.Common.{ℕ, ◌+◌, ◌-◌, ◌*◌, ◌^◌, ◌%◌, ◌≤◌, ◌<◌, ◌≡◌, refl, sym, ◌∙◌, Bool, true, false, cond, not, ◌&&◌, List, [], ◌∷◌, map, arith, mod-eq_of_lt, eq-eqb, ne_eqb, leb-true, eqb, length, take, drop, length-append, length-drop}
+use mathlib.Core.Bool.{and-false}
+use mathlib.Core.List.{flat_map}
+use lib.ListN.{length-map}
 use Rattle.laws.proofs.Finding.{position-inside}
 use Rattle.laws.proofs.Lists.{any_none}
 use Rattle.laws.specs.Texts.{sameBytes}

@@ -1,13 +1,10 @@
 -- The first candidate whose amount equals the payout's and whose field holds the token is the first guard that covers: of the
 -- guards that are no candidates none can cover, since the payout asks for its amount, which contains what comes in, and equal
 -- amounts are lowered by the same assignments.
-use Prim.Native.Nat.{ℕ, zero, suc, ◌+◌, ◌≤◌, ◌<◌}
-use mathlib.Core.Path.{◌≡◌, refl, sym, ap, ◌∙◌}
-use mathlib.Core.Bool.{Bool, true, false, cond, ◌&&◌, ◌||◌, and-false}
-use mathlib.Core.List.{List, [], ◌∷◌, ◌++◌, map, flat_map}
+use Rattle.std.proofs.Common.{ℕ, zero, suc, ◌+◌, ◌≤◌, ◌<◌, ◌≡◌, refl, sym, ap, ◌∙◌, Bool, true, false, cond, ◌&&◌, ◌||◌, List, [], ◌∷◌, ◌++◌, map, eqb, length, get_or, take, drop}
+use mathlib.Core.Bool.{and-false}
+use mathlib.Core.List.{flat_map}
 use mathlib.Core.Option.{some}
-use lib.Dec.{eqb}
-use lib.ListN.{length, get_or, take, drop}
 use Rattle.laws.proofs.Texts.{bytes-equal, bytes_same}
 use Rattle.laws.specs.Texts.{sameBytes, known}
 use Rattle.laws.specs.Lists.{any, filter, find, position}

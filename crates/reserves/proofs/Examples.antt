@@ -1,10 +1,8 @@
 -- The definitions computed on examples: which guard and which assignment let a state field cover a payout.
-use Prim.Native.Nat.{ℕ}
+use Rattle.std.proofs.Common.{ℕ, ◌≡◌, refl, List, [], ◌∷◌, ◌++◌, map, Option, length}
 use Prim.Native.String.{String}
-use mathlib.Core.Path.{◌≡◌, refl}
-use mathlib.Core.List.{List, [], ◌∷◌, ◌++◌, map, flat_map}
-use mathlib.Core.Option.{Option, none, some}
-use lib.ListN.{length}
+use mathlib.Core.List.{flat_map}
+use mathlib.Core.Option.{none, some}
 use Rattle.laws.specs.Lists.{any, all, filter, find, position}
 use Rattle.laws.specs.Texts.{sameBytes, bytes, known}
 use Rattle.tags.specs.Tag.{State, Entry, Parameter, Guard, Set, AddTo, SubtractFrom, InAsset, Member, Checked, Wrapping, And, Eq, Lt, Gt, Le, Ge, Sub, Mul, composite, isAssign, isExpression, isStatement, isWrapper}

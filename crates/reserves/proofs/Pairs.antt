@@ -1,10 +1,5 @@
 -- A table gone through two numbers at a time: those that were passed do not count, so those that are left decide.
-use Prim.Native.Nat.{ℕ, ◌+◌, ◌-◌, ◌≤◌, ◌<◌}
-use mathlib.Core.Path.{◌≡◌, refl, sym, ◌∙◌}
-use mathlib.Core.Bool.{Bool, true, false, cond, ◌&&◌}
-use mathlib.Core.List.{List, [], ◌∷◌}
-use native.Mathlib.Omega.{arith}
-use lib.ListN.{length, get_or, drop, length-drop, drop_of_length-le}
+use Rattle.std.proofs.Common.{ℕ, ◌+◌, ◌-◌, ◌≤◌, ◌<◌, ◌≡◌, refl, sym, ◌∙◌, Bool, true, false, cond, ◌&&◌, List, [], ◌∷◌, arith, length, get_or, drop, length-drop, drop_of_length-le}
 use Rattle.laws.proofs.Slices.{drop-step}
 use Rattle.fields.specs.Field.{Field, front}
 use Rattle.equality.specs.Equality.{exprEq}

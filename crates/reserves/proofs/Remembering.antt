@@ -1,13 +1,6 @@
 -- A table that is right stays right where a number that is right is written into it, and so it may be asked for the field.
-use Prim.Native.Nat.{ℕ, zero, suc, ◌+◌, ◌≤◌, ◌<◌}
-use mathlib.Core.Path.{◌≡◌, refl, ap, ◌∙◌}
-use mathlib.Core.Bool.{Bool, true, false, cond}
-use mathlib.Core.List.{List}
-use native.Mathlib.Omega.{arith}
-use borrow.Author.Tests.{ltb-true, lt-ltb, le-ltb}
-use lib.Dec.{ltb}
-use lib.ListN.{length, get_or, set, replicate, length-set, length-replicate, get_or-replicate}
-use lib.Seq.{get_or-set_other, drop-set-lt}
+use Rattle.std.proofs.Common.{ℕ, zero, suc, ◌+◌, ◌≤◌, ◌<◌, ◌≡◌, refl, ap, ◌∙◌, Bool, true, false, cond, List, arith, ltb-true, lt-ltb, le-ltb, ltb, length, get_or, set, replicate, length-set, get_or-set_other, drop-set-lt}
+use lib.ListN.{length-replicate, get_or-replicate}
 use Rattle.laws.proofs.Tables.{written-or-kept}
 use Rattle.fields.specs.Field.{fields}
 use Rattle.tokens.specs.Numbers.{notYet, tokenOf}

@@ -1,10 +1,5 @@
 -- Where no candidate has an equal amount, or the amount does not contain what comes in, nothing covers; else the first that covers does.
-use Prim.Native.Nat.{ℕ, ◌-◌, ◌≤◌, ◌<◌}
-use mathlib.Core.Path.{◌≡◌, refl, ap, ◌∙◌}
-use mathlib.Core.Bool.{Bool, true, false, cond}
-use mathlib.Core.List.{List}
-use native.Mathlib.Omega.{arith}
-use lib.ListN.{length, take, drop, length-take, drop_of_length-le}
+use Rattle.std.proofs.Common.{ℕ, ◌-◌, ◌≤◌, ◌<◌, ◌≡◌, refl, ap, ◌∙◌, Bool, true, false, cond, List, arith, length, take, drop, length-take, drop_of_length-le}
 use lib.Seq.{take-length}
 use Rattle.laws.proofs.Slices.{drop-rest}
 use Rattle.fields.specs.Field.{front}

@@ -1,11 +1,8 @@
 -- Without lowerings no guard counts: what lowers a guard's field by an amount that is asked for would be one of them.
-use Prim.Native.Nat.{ℕ, ◌+◌, ◌*◌, ◌≤◌}
-use mathlib.Core.Path.{◌≡◌, refl, sym, ◌∙◌}
-use mathlib.Core.Bool.{Bool, true, false, not, and-false}
-use mathlib.Core.List.{List, [], flat_map}
+use Rattle.std.proofs.Common.{ℕ, ◌+◌, ◌*◌, ◌≤◌, ◌≡◌, refl, sym, ◌∙◌, Bool, true, false, not, List, [], eqb, length, take, drop}
+use mathlib.Core.Bool.{and-false}
+use mathlib.Core.List.{flat_map}
 use borrow.Author.Tests.{not-true}
-use lib.Dec.{eqb}
-use lib.ListN.{length, take, drop}
 use Rattle.laws.specs.Lists.{any}
 use Rattle.tags.specs.Tag.{Guard, Set, SubtractFrom}
 use Rattle.fields.specs.Table.{Listed, fields_at}

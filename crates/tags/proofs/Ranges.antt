@@ -1,10 +1,6 @@
 -- A range of one tag is that tag.
-use Prim.Native.Nat.{ℕ}
-use mathlib.Core.Path.{◌≡◌, refl}
-use mathlib.Core.Bool.{Bool, true, false}
-use native.Mathlib.Omega.{arith}
-use borrow.Author.Tests.{eqb-true, eqb-false, le-leb, lt-leb, leb-true}
-use lib.Dec.{eqb, leb}
+use Rattle.std.proofs.Common.{ℕ, ◌≡◌, refl, Bool, true, false, arith, eqb-true, le-leb, leb-true, eqb, leb}
+use borrow.Author.Tests.{eqb-false, lt-leb}
 use Rattle.tags.specs.Tag.{between}
 
 pub between-one : (k t : ℕ) → between k k t ≡ eqb t k

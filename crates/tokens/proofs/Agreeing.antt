@@ -1,9 +1,5 @@
 -- A token is known if it has bytes.
-use Prim.Native.Nat.{ℕ}
-use mathlib.Core.Path.{◌≡◌}
-use mathlib.Core.Bool.{Bool, false, not}
-use mathlib.Core.List.{List}
-use lib.ListN.{length}
+use Rattle.std.proofs.Common.{ℕ, ◌≡◌, Bool, false, not, List, length}
 use Rattle.laws.specs.Texts.{sameBytes}
 use Rattle.laws.proofs.Texts.{unknown, is_known}
 use Rattle.tokens.specs.Tokens.{differ}

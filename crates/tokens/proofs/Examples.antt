@@ -1,9 +1,7 @@
 -- The definitions computed on examples: which conditions name a token, where it stands, and which number a set of tokens has.
-use Prim.Native.Nat.{ℕ}
+use Rattle.std.proofs.Common.{ℕ, ◌≡◌, refl, List, [], ◌∷◌, ◌++◌, map, length}
 use Prim.Native.String.{String}
-use mathlib.Core.Path.{◌≡◌, refl}
-use mathlib.Core.List.{List, [], ◌∷◌, ◌++◌, map, flat_map}
-use lib.ListN.{length}
+use mathlib.Core.List.{flat_map}
 use Rattle.laws.specs.Lists.{all, filter}
 use Rattle.laws.specs.Texts.{sameBytes, bytes, known}
 use Rattle.tags.specs.Tag.{Entry, Limits, Denies, Guard, InAsset, Checked, Wrapping, Not, Or, And, Eq, Ne, Lt, composite, isWrapper}

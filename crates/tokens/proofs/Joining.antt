@@ -1,12 +1,7 @@
 -- A number stands for a list of tokens: two such lists together have the number of the two joined.
-use Prim.Native.Nat.{ℕ, ◌+◌, ◌-◌, ◌≤◌, ◌<◌}
-use mathlib.Core.Path.{◌≡◌, refl, sym, ap, ◌∙◌}
-use mathlib.Core.Bool.{Bool, true, false, cond, ◌&&◌}
-use mathlib.Core.List.{List, [], ◌∷◌, ◌++◌, map, flat_map, append-nil, append_assoc}
-use native.Mathlib.Omega.{arith}
-use borrow.Author.Tests.{eqb-true, eqb-false, eq-eqb, ne_eqb, lt-leb, le-leb, leb-true, leb-false}
-use lib.Dec.{eqb, leb}
-use lib.ListN.{length, drop, drop_of_length-le}
+use Rattle.std.proofs.Common.{ℕ, ◌+◌, ◌-◌, ◌≤◌, ◌<◌, ◌≡◌, refl, sym, ap, ◌∙◌, Bool, true, false, cond, ◌&&◌, List, [], ◌∷◌, ◌++◌, map, append-nil, append_assoc, arith, eqb-true, eq-eqb, ne_eqb, le-leb, leb-true, leb-false, eqb, leb, length, drop, drop_of_length-le}
+use mathlib.Core.List.{flat_map}
+use borrow.Author.Tests.{eqb-false, lt-leb}
 use Rattle.laws.specs.Lists.{all}
 use Rattle.laws.specs.Texts.{known, sameBytes}
 use Rattle.laws.proofs.Lists.{Every, all_append}

@@ -1,13 +1,7 @@
 -- An entry's number stands for the tokens that its conditions name: each condition stands in the file, and so does the token.
-use Prim.Native.Nat.{ℕ, ◌+◌, ◌-◌, ◌%◌, ◌≤◌, ◌<◌}
-use mathlib.Core.Path.{◌≡◌, refl, sym, ◌∙◌}
-use mathlib.Core.Bool.{Bool, true, false, cond}
-use mathlib.Core.List.{List, [], ◌∷◌, ◌++◌, map, flat_map}
-use native.Mathlib.Omega.{arith}
-use borrow.Author.Tests.{le-leb}
-use lib.Dec.{eqb}
-use lib.ListN.{length, get_or, take, drop, length-drop, drop_of_length-le}
-use lib.Seq.{length-take-le, get_or-take, length-sets, drop-drop}
+use Rattle.std.proofs.Common.{ℕ, ◌+◌, ◌-◌, ◌%◌, ◌≤◌, ◌<◌, ◌≡◌, refl, sym, ◌∙◌, Bool, true, false, cond, List, [], ◌∷◌, ◌++◌, map, arith, le-leb, eqb, length, get_or, take, drop, length-drop, drop_of_length-le, length-take-le, get_or-take, drop-drop}
+use mathlib.Core.List.{flat_map}
+use lib.Seq.{length-sets}
 use Rattle.laws.specs.Lists.{all, filter}
 use Rattle.laws.specs.Texts.{known}
 use Rattle.laws.proofs.Lists.{Every}

@@ -1,13 +1,6 @@
 -- A token that is found is the text of an identifier that stands in the file, so it shows the bytes behind that one's head.
-use Prim.Native.Nat.{ℕ, zero, suc, ◌+◌}
-use mathlib.Core.Path.{◌≡◌, refl, sym, ap, ◌∙◌}
-use mathlib.Core.Bool.{Bool, true, false, cond}
-use mathlib.Core.List.{List, [], ◌∷◌, map}
-use native.Mathlib.Omega.{arith}
-use native.Mathlib.Nat.{add-zero, add_assoc}
-use lib.Dec.{eqb}
-use lib.ListN.{length, take, drop}
-use lib.Seq.{drop-drop, drop-length}
+use Rattle.std.proofs.Common.{ℕ, zero, suc, ◌+◌, ◌≡◌, refl, sym, ap, ◌∙◌, Bool, true, false, cond, List, [], ◌∷◌, map, arith, add-zero, add_assoc, eqb, length, take, drop, drop-drop}
+use lib.Seq.{drop-length}
 use Rattle.laws.specs.Lists.{all, filter}
 use Rattle.laws.specs.Texts.{known, sameBytes}
 use Rattle.laws.proofs.Lists.{Every}

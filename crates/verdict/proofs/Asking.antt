@@ -1,13 +1,5 @@
 -- Questions 9 to 12: the first "no" is the verdict, and where there is none the matching is.
-use Prim.Native.Nat.{ℕ, zero, suc, ◌+◌, ◌-◌, ◌*◌, ◌≤◌, ◌<◌}
-use mathlib.Core.Path.{◌≡◌, refl, sym, ap, subst, ◌∙◌}
-use mathlib.Core.Bool.{Bool, true, false}
-use mathlib.Core.List.{List, [], ◌∷◌, map}
-use native.Mathlib.Omega.{arith}
-use borrow.Author.Tests.{lt-ltb, le-ltb, ltb-true, ltb-false}
-use lib.Dec.{ltb}
-use lib.ListN.{length, get_or, take, drop, length-take, length-drop, drop_of_length-le}
-use lib.Seq.{take_all, get_or-take, get_or-drop, drop-cons}
+use Rattle.std.proofs.Common.{ℕ, zero, suc, ◌+◌, ◌-◌, ◌*◌, ◌≤◌, ◌<◌, ◌≡◌, refl, sym, ap, subst, ◌∙◌, Bool, true, false, List, [], ◌∷◌, map, arith, lt-ltb, le-ltb, ltb-true, ltb-false, ltb, length, get_or, take, drop, length-take, length-drop, drop_of_length-le, take_all, get_or-take, get_or-drop, drop-cons}
 use Rattle.laws.specs.Lists.{filter}
 use Rattle.laws.proofs.Lists.{Every, every-filter, every-at}
 use Rattle.tags.specs.Tag.{Entry}

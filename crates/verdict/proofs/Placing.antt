@@ -1,11 +1,7 @@
 -- Questions 9 to 12: the first "no" is the verdict, and where there is none the matching is.
-use Prim.Native.Nat.{ℕ, ◌+◌, ◌-◌, ◌*◌, ◌≤◌, ◌<◌}
-use mathlib.Core.Path.{◌≡◌, refl, sym, ap, ◌∙◌}
-use mathlib.Core.List.{List, [], ◌∷◌}
-use native.Mathlib.Omega.{arith}
-use borrow.Author.Tests.{le-leb, lt-leb}
-use lib.ListN.{length, get_or, drop, length-map, drop_of_length-le}
-use lib.Seq.{drop-cons}
+use Rattle.std.proofs.Common.{ℕ, ◌+◌, ◌-◌, ◌*◌, ◌≤◌, ◌<◌, ◌≡◌, refl, sym, ap, ◌∙◌, List, [], ◌∷◌, arith, le-leb, length, get_or, drop, drop_of_length-le, drop-cons}
+use borrow.Author.Tests.{lt-leb}
+use lib.ListN.{length-map}
 use Rattle.laws.proofs.Lists.{no-elements}
 use Rattle.fields.specs.Field.{Field, Placed, fields}
 use Rattle.walking.specs.Walking.{isPayout, payouts}

@@ -1,10 +1,5 @@
 -- The candidates stand in front of a table that has room for all, and are lent by themselves.
-use Prim.Native.Nat.{ℕ, ◌+◌, ◌*◌, ◌≤◌, ◌<◌}
-use mathlib.Core.Path.{◌≡◌, refl, sym, ap, ◌∙◌}
-use mathlib.Core.List.{List}
-use native.Mathlib.Omega.{arith}
-use lib.ListN.{length, get_or, take, drop}
-use lib.Seq.{take_all, length-take-le}
+use Rattle.std.proofs.Common.{ℕ, ◌+◌, ◌*◌, ◌≤◌, ◌<◌, ◌≡◌, refl, sym, ap, ◌∙◌, List, arith, length, get_or, take, drop, take_all, length-take-le}
 use Rattle.fields.specs.Field.{fields}
 use Rattle.fields.specs.Table.{Listed}
 use Rattle.walking.specs.Table.{placed_at}

@@ -1,10 +1,7 @@
 -- Payout by payout: those before the k-th have their covers, and those that are left decide.
-use Prim.Native.Nat.{ℕ, suc, ◌+◌, ◌-◌, ◌*◌, ◌/◌, ◌%◌, ◌≤◌, ◌<◌}
-use native.Mathlib.Omega.{arith}
-use mathlib.Core.Path.{◌≡◌, refl, sym, ap, ◌∙◌}
-use mathlib.Core.List.{List, [], ◌∷◌, ◌++◌, append-nil}
-use lib.ListN.{length, take, drop, replicate, length-append, length-replicate, drop_of_length-le}
-use lib.Seq.{sets, sets-eq, length-sets, take_at, drop-cons}
+use Rattle.std.proofs.Common.{ℕ, suc, ◌+◌, ◌-◌, ◌*◌, ◌/◌, ◌%◌, ◌≤◌, ◌<◌, arith, ◌≡◌, refl, sym, ap, ◌∙◌, List, [], ◌∷◌, ◌++◌, append-nil, length, take, drop, replicate, length-append, drop_of_length-le, take_at, drop-cons}
+use lib.ListN.{length-replicate}
+use lib.Seq.{sets, sets-eq, length-sets}
 use Rattle.fields.specs.Field.{Field, Fields, fields, nothing}
 use Rattle.walking.specs.Walking.{payouts}
 use Rattle.entries.specs.Entered.{Entered, entry_of}

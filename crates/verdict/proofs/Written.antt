@@ -1,10 +1,5 @@
 -- Writing covers: three bytes for each, and a copy of the first n bytes.
-use Prim.Native.Nat.{ℕ, zero, suc, ◌+◌, ◌*◌, ◌/◌, ◌%◌, ◌≤◌, ◌<◌}
-use mathlib.Core.Path.{◌≡◌, refl, sym, ap, ◌∙◌}
-use mathlib.Core.List.{List, [], ◌∷◌, ◌++◌}
-use native.Mathlib.Omega.{arith}
-use native.Mathlib.Nat.{zero-add}
-use lib.ListN.{length, get_or, set, take, drop, length-set}
+use Rattle.std.proofs.Common.{ℕ, zero, suc, ◌+◌, ◌*◌, ◌/◌, ◌%◌, ◌≤◌, ◌<◌, ◌≡◌, refl, sym, ap, ◌∙◌, List, [], ◌∷◌, ◌++◌, arith, zero-add, length, get_or, set, take, drop, length-set}
 use lib.Seq.{sets, paste, paste-zero, paste-suc, length-paste}
 use Rattle.matching.specs.Matching.{Cover}
 use Rattle.claim.specs.Verdict.{kind, index}

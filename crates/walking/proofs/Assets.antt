@@ -1,12 +1,5 @@
 -- Asset parameters are met one after the other: those that are left behind the one at hand are all that are left.
-use Prim.Native.Nat.{ℕ, ◌+◌, ◌^◌, ◌≤◌, ◌<◌}
-use mathlib.Core.Path.{◌≡◌, ap}
-use mathlib.Core.Bool.{true, false}
-use mathlib.Core.List.{List, [], ◌∷◌, map}
-use native.Mathlib.Omega.{arith}
-use mir.Syntax.{w64}
-use mir.Val.{Fits}
-use lib.ListN.{length, take, drop, length-take, length-drop}
+use Rattle.std.proofs.Common.{ℕ, ◌+◌, ◌^◌, ◌≤◌, ◌<◌, ◌≡◌, ap, true, false, List, [], ◌∷◌, map, arith, w64, Fits, length, take, drop, length-take, length-drop}
 use Rattle.laws.specs.Lists.{any}
 use Rattle.laws.specs.Texts.{sameBytes}
 use Rattle.fields.specs.Field.{fields, whole, after, front, parts, sizes}

@@ -1,7 +1,5 @@
 -- Debits and payouts are calls: a table of the calls of a body has them all.
-use mathlib.Core.Path.{◌≡◌, refl, sym}
-use mathlib.Core.Bool.{Bool, true, false}
-use lib.Dec.{eqb}
+use Rattle.std.proofs.Common.{◌≡◌, refl, sym, Bool, true, false, eqb}
 use Rattle.laws.specs.Lists.{filter}
 use Rattle.laws.specs.Texts.{sameBytes}
 use Rattle.laws.proofs.Lists.{filter-first}

@@ -1,10 +1,7 @@
 -- The definitions computed on examples: what is peeled and what is not, the order of the walk, what bars a debit or a
 -- payout and what does not.
-use Prim.Native.Nat.{ℕ}
-use mathlib.Core.Path.{◌≡◌, refl}
-use mathlib.Core.Bool.{true, false}
-use mathlib.Core.List.{List, [], ◌∷◌, ◌++◌, map, flat_map}
-use lib.ListN.{length}
+use Rattle.std.proofs.Common.{ℕ, ◌≡◌, refl, true, false, List, [], ◌∷◌, ◌++◌, map, length}
+use mathlib.Core.List.{flat_map}
 use lib.Seq.{sets}
 use Rattle.laws.specs.Lists.{filter}
 use Rattle.laws.specs.Texts.{bytes, sameBytes}

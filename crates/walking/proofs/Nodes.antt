@@ -1,12 +1,6 @@
 -- What the answer about a node says of the field at the front of s, and so of `p.amount`.
-use Prim.Native.Nat.{ℕ, ◌+◌, ◌-◌, ◌≤◌}
-use mathlib.Core.Path.{◌≡◌, refl, sym, ◌∙◌}
-use mathlib.Core.Bool.{Bool, true, false, cond, not, ◌&&◌}
-use mathlib.Core.List.{List, []}
-use native.Mathlib.Omega.{arith}
-use borrow.Author.Tests.{eqb-true, leb-true, not-true, not-false}
-use lib.Dec.{eqb}
-use lib.ListN.{length, take, drop}
+use Rattle.std.proofs.Common.{ℕ, ◌+◌, ◌-◌, ◌≤◌, ◌≡◌, refl, sym, ◌∙◌, Bool, true, false, cond, not, ◌&&◌, List, [], arith, eqb-true, leb-true, eqb, length, take, drop}
+use borrow.Author.Tests.{not-true, not-false}
 use Rattle.laws.specs.Texts.{bytes, sameBytes}
 use Rattle.laws.proofs.Truths.{and_left, and_right}
 use Rattle.tags.specs.Tag.{Member, Identifier, composite}

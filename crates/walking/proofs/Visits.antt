@@ -1,12 +1,7 @@
 -- What a visit lists at each return: of a field, and of a row of fields.
-use Prim.Native.Nat.{ℕ, ◌+◌, ◌%◌}
-use mathlib.Core.Path.{◌≡◌, refl}
-use mathlib.Core.Bool.{Bool, not, cond, true, false}
-use mathlib.Core.List.{List, [], ◌∷◌, flat_map}
-use native.Mathlib.Omega.{arith}
+use Rattle.std.proofs.Common.{ℕ, ◌+◌, ◌%◌, ◌≡◌, refl, Bool, not, cond, true, false, List, [], ◌∷◌, arith, eqb, length}
+use mathlib.Core.List.{flat_map}
 use borrow.Author.Tests.{not-true, not-false}
-use lib.Dec.{eqb}
-use lib.ListN.{length}
 use Rattle.laws.specs.Lists.{filter}
 use Rattle.laws.proofs.Lists.{no-elements}
 use Rattle.tags.specs.Tag.{isExpression, isStatement}

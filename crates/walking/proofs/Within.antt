@@ -1,10 +1,6 @@
 -- Places increase along the walk, and stay inside the field that is walked.
-use Prim.Native.Nat.{ℕ, ◌+◌, ◌*◌, ◌≤◌}
-use mathlib.Core.Bool.{Bool}
-use mathlib.Core.List.{List, [], ◌∷◌, ◌++◌, flat_map}
-use native.Mathlib.Omega.{arith}
-use native.Mathlib.Nat.{add_assoc}
-use lib.ListN.{length}
+use Rattle.std.proofs.Common.{ℕ, ◌+◌, ◌*◌, ◌≤◌, Bool, List, [], ◌∷◌, ◌++◌, arith, add_assoc, length}
+use mathlib.Core.List.{flat_map}
 use Rattle.laws.specs.Lists.{filter}
 use Rattle.laws.proofs.Truths.{chosen}
 use Rattle.tags.specs.Tag.{isExpression, isStatement}

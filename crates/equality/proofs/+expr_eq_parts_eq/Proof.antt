@@ -1,7 +1,5 @@
 -- Down into a field with the bytes of its content, along its parts with the bytes behind each.
-use Prim.Native.Nat.{◌+◌, ◌*◌}
-use borrow.Author.Rules.{rules}
-use lib.ListN.{length}
+use Rattle.std.proofs.Common.{◌+◌, ◌*◌, rules, length}
 use Rattle.laws.proofs.Told.{told}
 use Rattle.fields.proofs.Reading.{content-falls, after_less}
 use Rattle.fields.proofs.front.after_front.Reads as after-front-reads

@@ -1,5 +1,5 @@
 -- The lookup's token is compared with the one asked about.
-use borrow.Author.Rules.{rules}
+use Rattle.std.proofs.Common.{rules}
 use Rattle.export.proofs.Asked.{too_long, told_of}
 use Rattle.export.proofs.zevdrak_is_admitted_inflow_token.Statement.{statement}
 use Rattle.export.proofs.zevdrak_is_admitted_inflow_token.Tie as tie

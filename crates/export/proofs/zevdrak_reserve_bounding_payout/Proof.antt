@@ -1,12 +1,8 @@
 -- The two cases of the answer are those of the definition; of a file that is too long there is none.
-use Prim.Native.Nat.{ℕ, ◌<◌, ◌≤◌}
-use mathlib.Core.Path.{◌≡◌, refl}
+use Rattle.std.proofs.Common.{ℕ, ◌<◌, ◌≤◌, ◌≡◌, refl, List, Option, rules, le-leb, length}
 use mathlib.Core.Bool.{false≢true}
-use mathlib.Core.List.{List}
-use mathlib.Core.Option.{Option, none, some}
-use borrow.Author.Rules.{rules}
-use borrow.Author.Tests.{le-leb, lt-leb}
-use lib.ListN.{length}
+use mathlib.Core.Option.{none, some}
+use borrow.Author.Tests.{lt-leb}
 use Rattle.fields.specs.Field.{fields}
 use Rattle.reserves.specs.Covers.{reserveOf}
 use Rattle.reserves.specs.declared.covering.Reserve.{Reserve}

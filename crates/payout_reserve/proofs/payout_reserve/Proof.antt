@@ -1,5 +1,5 @@
 -- The entry is not there, or stands at its place.
-use borrow.Author.Rules.{rules}
+use Rattle.std.proofs.Common.{rules}
 use Rattle.payout_reserve.proofs.Reserving.{place_inside, reserve-missing, reserve-there}
 use Rattle.payout_reserve.proofs.payout_reserve.Statement.{statement}
 use Rattle.payout_reserve.proofs.payout_reserve.Tie as tie

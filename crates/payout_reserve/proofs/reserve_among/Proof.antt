@@ -1,5 +1,5 @@
 -- The k-th payout stands at its place in a table of all.
-use borrow.Author.Rules.{rules}
+use Rattle.std.proofs.Common.{rules}
 use Rattle.payout_reserve.proofs.Reserving.{payout-missing, payout-among, payout-found}
 use Rattle.payout_reserve.proofs.reserve_among.Statement.{statement}
 use Rattle.payout_reserve.proofs.reserve_among.Tie as tie

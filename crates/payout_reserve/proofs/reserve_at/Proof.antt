@@ -1,5 +1,5 @@
 -- All calls are in the table.
-use borrow.Author.Rules.{rules}
+use Rattle.std.proofs.Common.{rules}
 use Rattle.payout_reserve.proofs.Reserving.{all_fit, all-part, all-calls}
 use Rattle.payout_reserve.proofs.reserve_at.Statement.{statement}
 use Rattle.payout_reserve.proofs.reserve_at.Tie as tie

@@ -1,5 +1,5 @@
 -- The payout stands alone in a table, and nothing is known yet.
-use borrow.Author.Rules.{rules}
+use Rattle.std.proofs.Common.{rules}
 use Rattle.reserves.proofs.Remembering.{facts-none}
 use Rattle.payout_reserve.proofs.Reserving.{alone-fit, alone-part, alone-listed, alone-asked}
 use Rattle.payout_reserve.proofs.reserve_for.Statement.{statement}

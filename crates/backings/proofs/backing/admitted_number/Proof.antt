@@ -1,5 +1,5 @@
 -- What is remembered is the number of the entry's token, or it is worked out.
-use borrow.Author.Rules.{rules}
+use Rattle.std.proofs.Common.{rules}
 use Rattle.backings.proofs.Reading.{remembered-token, worked-out-token}
 use Rattle.backings.proofs.backing.admitted_number.Statement.{statement}
 use Rattle.backings.proofs.backing.admitted_number.Tie as tie

@@ -1,9 +1,5 @@
 -- The part by which the backing is known is compared as what it is: an expression or a name.
-use mathlib.Core.Path.{◌≡◌}
-use mathlib.Core.Bool.{Bool, false}
-use mathlib.Core.List.{List}
-use Prim.Native.Nat.{ℕ}
-use borrow.Author.Rules.{rules}
+use Rattle.std.proofs.Common.{◌≡◌, Bool, false, List, ℕ, rules}
 use Rattle.fields.specs.Field.{Field}
 use Rattle.bounds.specs.Bounds.{boundedByBacking}
 use Rattle.bounds.specs.Backing.{backingField}

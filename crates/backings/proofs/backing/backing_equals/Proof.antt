@@ -1,9 +1,5 @@
 -- The part by which the backing is known is compared as what it is: an expression or a name.
-use mathlib.Core.Path.{◌≡◌}
-use mathlib.Core.Bool.{Bool}
-use mathlib.Core.List.{List}
-use Prim.Native.Nat.{ℕ}
-use borrow.Author.Rules.{rules}
+use Rattle.std.proofs.Common.{◌≡◌, Bool, List, ℕ, rules}
 use Rattle.fields.specs.Field.{Field}
 use Rattle.equality.specs.Equality.{exprEq}
 use Rattle.bounds.specs.Backing.{backingField}

@@ -1,5 +1,5 @@
 -- A debit is known by its expression, and a parameter by its name.
-use borrow.Author.Rules.{rules}
+use Rattle.std.proofs.Common.{rules}
 use Rattle.backings.proofs.Reading.{debit-part, parameter-part}
 use Rattle.backings.proofs.backing.backing_part.Statement.{statement}
 use Rattle.backings.proofs.backing.backing_part.Tie as tie

@@ -1,8 +1,5 @@
 -- The readers are the definition's, one inside the other.
-use mathlib.Core.Path.{◌≡◌}
-use mathlib.Core.List.{List}
-use Prim.Native.Nat.{ℕ}
-use borrow.Author.Rules.{rules}
+use Rattle.std.proofs.Common.{◌≡◌, List, ℕ, rules}
 use Rattle.fields.specs.Field.{front, part}
 use Rattle.walking.specs.Walking.{peel}
 use Rattle.backings.proofs.backing.debit_amount.Statement.{statement}

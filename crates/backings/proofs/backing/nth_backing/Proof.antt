@@ -1,4 +1,4 @@
-use borrow.Author.Rules.{rules}
+use Rattle.std.proofs.Common.{rules}
 use Rattle.backings.proofs.backing.nth_backing.Statement.{statement}
 use Rattle.backings.proofs.backing.nth_backing.Tie as tie
 

@@ -1,5 +1,5 @@
 -- Both tokens are worked out, and compared.
-use borrow.Author.Rules.{rules}
+use Rattle.std.proofs.Common.{rules}
 use Rattle.backings.proofs.Reading.{small-rest, entry-admits, file-admits, debit-conflict, parameter-conflict}
 use Rattle.backings.proofs.backing.tokens_conflict.Statement.{statement}
 use Rattle.backings.proofs.backing.tokens_conflict.Tie as tie

@@ -1,5 +1,5 @@
 -- The marks are made as the definition says.
-use mathlib.Core.Path.{refl}
+use Rattle.std.proofs.Common.{refl}
 use Rattle.backings.specs.Marked.{allFree}
 use Rattle.backings.proofs.marks.all_free.Statement.{statement}
 use Rattle.backings.proofs.marks.all_free.Tie as tie

@@ -1,7 +1,5 @@
 -- No backing that was passed over passes the test, so those that are left decide.
-use Prim.Native.Nat.{◌-◌}
-use native.Mathlib.Omega.{arith}
-use borrow.Author.Rules.{rules}
+use Rattle.std.proofs.Common.{◌-◌, arith, rules}
 use Rattle.fields.specs.Field.{front}
 use Rattle.guards.specs.Payouts.{payoutAmount}
 use Rattle.backings.specs.Tables.{equalTo, freeIn}

@@ -1,5 +1,5 @@
 -- A number past the last mark has none.
-use borrow.Author.Rules.{rules}
+use Rattle.std.proofs.Common.{rules}
 use Rattle.backings.proofs.Marking.{free_in, free-out}
 use Rattle.backings.proofs.marks.is_free.Statement.{statement}
 use Rattle.backings.proofs.marks.is_free.Tie as tie

@@ -1,6 +1,5 @@
 -- The reserves are gone through from the last to the first, and none that was passed is the one.
-use native.Mathlib.Omega.{arith}
-use borrow.Author.Rules.{rules}
+use Rattle.std.proofs.Common.{arith, rules}
 use Rattle.backings.proofs.Marking.{Unused, unused-all, unused_found, unused-on}
 use Rattle.backings.proofs.marks.is_used.Statement.{statement}
 use Rattle.backings.proofs.marks.is_used.Tie as tie

@@ -1,5 +1,5 @@
 -- The mark is asked first, since it costs less.
-use borrow.Author.Rules.{rules}
+use Rattle.std.proofs.Common.{rules}
 use Rattle.backings.proofs.Marking.{marked-not, marked-so}
 use Rattle.backings.proofs.marks.marked_bounds.Statement.{statement}
 use Rattle.backings.proofs.marks.marked_bounds.Tie as tie

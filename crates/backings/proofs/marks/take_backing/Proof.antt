@@ -1,5 +1,5 @@
 -- A number past the last mark has none to take away.
-use borrow.Author.Rules.{rules}
+use Rattle.std.proofs.Common.{rules}
 use Rattle.backings.proofs.Marking.{without_in, without-out}
 use Rattle.backings.proofs.marks.take_backing.Statement.{statement}
 use Rattle.backings.proofs.marks.take_backing.Tie as tie

@@ -1,5 +1,5 @@
 -- A sum past the last mark has none to take away.
-use borrow.Author.Rules.{rules}
+use Rattle.std.proofs.Common.{rules}
 use Rattle.backings.proofs.Marking.{many-debits, far-parameter}
 use Rattle.backings.proofs.marks.take_parameter.Statement.{statement}
 use Rattle.backings.proofs.marks.take_parameter.Tie as tie

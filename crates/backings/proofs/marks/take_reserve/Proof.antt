@@ -1,5 +1,5 @@
 -- The next number is the count of those that are used.
-use borrow.Author.Rules.{rules}
+use Rattle.std.proofs.Common.{rules}
 use Rattle.backings.proofs.Marking.{with_in, with_out}
 use Rattle.backings.proofs.marks.take_reserve.Statement.{statement}
 use Rattle.backings.proofs.marks.take_reserve.Tie as tie

@@ -1,5 +1,5 @@
 -- A number past the last reserve has none.
-use borrow.Author.Rules.{rules}
+use Rattle.std.proofs.Common.{rules}
 use Rattle.backings.proofs.Marking.{used-in, used-out}
 use Rattle.backings.proofs.marks.used_at.Statement.{statement}
 use Rattle.backings.proofs.marks.used_at.Tie as tie

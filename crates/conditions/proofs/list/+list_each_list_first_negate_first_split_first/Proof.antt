@@ -1,9 +1,6 @@
 -- A required expression gives itself or, where it is And, its parts; a denied one what is inside `not`, the negations of the
 -- parts of Or, or itself flipped; of a list of parts, whoever lists what is left has listed all.
-use Prim.Native.Nat.{◌+◌, ◌*◌}
-use native.Mathlib.Omega.{arith}
-use borrow.Author.Rules.{rules}
-use lib.ListN.{length}
+use Rattle.std.proofs.Common.{◌+◌, ◌*◌, arith, rules, length}
 use Rattle.laws.proofs.Told.{told}
 use Rattle.fields.proofs.Reading.{after_less}
 use Rattle.fields.proofs.Listing.{down-note, down_fits, down-same, along-fits, Listing, listing-all, listing-on, listing-done}

@@ -1,5 +1,5 @@
 -- Case by case.
-use borrow.Author.Rules.{rules}
+use Rattle.std.proofs.Common.{rules}
 use Rattle.claim.specs.Verdict.{reason}
 use Rattle.contract.proofs.numbers.number_of.Statement.{statement}
 use Rattle.contract.proofs.numbers.number_of.Tie as tie

@@ -1,5 +1,5 @@
 -- Case by case.
-use borrow.Author.Rules.{rules}
+use Rattle.std.proofs.Common.{rules}
 use Rattle.contract.proofs.Told.{accepted-numbered, rejected-numbered, refused-numbered}
 use Rattle.contract.proofs.numbers.numbers_of.Statement.{statement}
 use Rattle.contract.proofs.numbers.numbers_of.Tie as tie

@@ -1,5 +1,5 @@
 -- The record of the refusal, or those of all entries: either table has a number for each three bytes of the file.
-use borrow.Author.Rules.{rules}
+use Rattle.std.proofs.Common.{rules}
 use Rattle.contract.proofs.Each.{asked-all, table-enough, refused-each}
 use Rattle.contract.proofs.records.each_record.Statement.{statement}
 use Rattle.contract.proofs.records.each_record.Tie as tie

@@ -1,5 +1,5 @@
 -- The place of the entry is the file's length less that of the rest.
-use borrow.Author.Rules.{rules}
+use Rattle.std.proofs.Common.{rules}
 use Rattle.contract.proofs.Writing.{entry-told}
 use Rattle.contract.proofs.records.entry_numbers.Statement.{statement}
 use Rattle.contract.proofs.records.entry_numbers.Tie as tie

@@ -1,6 +1,5 @@
 -- The records of the entries before the one at the front of t are written.
-use borrow.Author.Rules.{rules}
-use lib.ListN.{length}
+use Rattle.std.proofs.Common.{rules, length}
 use Rattle.laws.proofs.Told.{told}
 use Rattle.fields.proofs.Rows.{from_less}
 use Rattle.reserves.proofs.Remembering.{facts-none}

@@ -1,9 +1,5 @@
 -- The comparison decides.
-use Prim.Native.Nat.{ℕ, ◌<◌, ◌≤◌}
-use mathlib.Core.Path.{◌≡◌}
-use mathlib.Core.Bool.{cond}
-use borrow.Author.Tests.{lt-ltb, le-ltb}
-use lib.Dec.{ltb}
+use Rattle.std.proofs.Common.{ℕ, ◌<◌, ◌≤◌, ◌≡◌, cond, lt-ltb, le-ltb, ltb}
 use Rattle.contract.proofs.records.larger.Statement.{statement}
 use Rattle.contract.proofs.records.larger.Tie as tie
 

@@ -1,5 +1,5 @@
 -- The numbers and the covers are those of the verdict, and so the record is.
-use borrow.Author.Rules.{rules}
+use Rattle.std.proofs.Common.{rules}
 use Rattle.contract.proofs.Writing.{more-here}
 use Rattle.contract.proofs.records.one_more.Statement.{statement}
 use Rattle.contract.proofs.records.one_more.Tie as tie

@@ -1,5 +1,5 @@
 -- The numbers of a refusal are its whole record.
-use borrow.Author.Rules.{rules}
+use Rattle.std.proofs.Common.{rules}
 use Rattle.contract.proofs.Each.{refusal-recorded}
 use Rattle.contract.proofs.records.refusal_record.Statement.{statement}
 use Rattle.contract.proofs.records.refusal_record.Tie as tie

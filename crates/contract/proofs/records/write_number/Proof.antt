@@ -1,5 +1,5 @@
 -- Two bytes, one behind the other.
-use borrow.Author.Rules.{rules}
+use Rattle.std.proofs.Common.{rules}
 use Rattle.contract.proofs.Writing.{two-written}
 use Rattle.contract.proofs.records.write_number.Statement.{statement}
 use Rattle.contract.proofs.records.write_number.Tie as tie

@@ -1,5 +1,5 @@
 -- Three pieces, one behind the other.
-use borrow.Author.Rules.{rules}
+use Rattle.std.proofs.Common.{rules}
 use Rattle.contract.proofs.Writing.{head-written}
 use Rattle.contract.proofs.records.write_numbers.Statement.{statement}
 use Rattle.contract.proofs.records.write_numbers.Tie as tie

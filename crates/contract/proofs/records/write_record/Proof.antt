@@ -1,5 +1,5 @@
 -- Behind the numbers stand the covers, where there are some.
-use borrow.Author.Rules.{rules}
+use Rattle.std.proofs.Common.{rules}
 use Rattle.laws.proofs.Told.{told}
 use Rattle.contract.proofs.Writing.{covers-fit, head-alone, covers-behind}
 use Rattle.contract.proofs.records.write_record.Statement.{statement}

@@ -1,5 +1,5 @@
 -- Without a record the refusal of question 9 is the only one; with some they are all.
-use borrow.Author.Rules.{rules}
+use Rattle.std.proofs.Common.{rules}
 use Rattle.contract.proofs.Each.{some-all, none-all}
 use Rattle.contract.proofs.records.write_records.Statement.{statement}
 use Rattle.contract.proofs.records.write_records.Tie as tie

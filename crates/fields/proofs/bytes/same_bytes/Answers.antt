@@ -10,20 +10,8 @@ returns-then-a-b c = search lengths_differ
 pub loop-i-init : goal.loop-i-init
 loop-i-init c = search agree-none
 
-pub bounds-a-i : goal.bounds-a-i
-bounds-a-i c = omega arith
-
-pub bounds-b-i : goal.bounds-b-i
-bounds-b-i c = omega arith
-
 pub returns-then-a-i : goal.returns-then-a-i
 returns-then-a-i c = search differ
-
-pub overflow_add-i : goal.overflow_add-i
-overflow_add-i c = omega arith
-
-pub loop-i-smaller : goal.loop-i-smaller
-loop-i-smaller c = omega arith
 
 pub loop-i-preserved : goal.loop-i-preserved
 loop-i-preserved c = search agree-one

@@ -19,9 +19,6 @@ module _ (s : List ℕ) (low high : ℕ) (t : List ℕ) (i : from low high t ≡
   done : whole t ≡ false → (u : List ℕ) → u ≡ drop (length t) t → u ≡ from low high s
   done w u f = f ∙ drop-length t ∙ sym (from_end low high t w) ∙ i
 
-pub loop-tag-init : goal.loop-tag-init
-loop-tag-init c = refl
-
 pub returns-then-low-tag : goal.returns-then-low-tag
 returns-then-low-tag c = search (here, told)
 

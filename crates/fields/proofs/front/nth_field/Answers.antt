@@ -12,12 +12,6 @@ returns-then-t-eq0-clause-reads c = search (reads-nth, passed-end)
 pub returns-then-t-eq0-clause-shows : goal.returns-then-t-eq0-clause-shows
 returns-then-t-eq0-clause-shows c = search passed-end
 
-pub overflow_add-i : goal.overflow_add-i
-overflow_add-i c = omega arith
-
-pub loop-i-smaller : goal.loop-i-smaller
-loop-i-smaller c = omega arith
-
 pub loop-i-preserved : goal.loop-i-preserved
 loop-i-preserved c = search passed-one
 

@@ -9,12 +9,6 @@ loop-passed-init c = search passed_none
 pub returns-then-t-eq0 : goal.returns-then-t-eq0
 returns-then-t-eq0 c = search passed-end
 
-pub overflow_add-passed : goal.overflow_add-passed
-overflow_add-passed c = omega arith
-
-pub loop-passed-smaller : goal.loop-passed-smaller
-loop-passed-smaller c = omega arith
-
 pub loop-passed-preserved : goal.loop-passed-preserved
 loop-passed-preserved c = search passed-one
 

@@ -1,8 +1,5 @@
 -- Whoever lists the calls that are left has listed all.
-use borrow.Author.Rules.{rules}
-use native.Mathlib.Omega.{arith}
-use Prim.Native.Nat.{◌-◌}
-use lib.ListN.{length}
+use Rattle.std.proofs.Common.{rules, arith, ◌-◌, length}
 use Rattle.fields.specs.Field.{front}
 use Rattle.fundings.proofs.Filling.{Filling, filling-all, filling-room, filling-on, filling-done}
 use Rattle.fundings.proofs.ledger.list_calls.Goals as goal
@@ -13,17 +10,8 @@ loop-i-init c = search filling-all
 pub list_call-m-requires : goal.list_call-m-requires
 list_call-m-requires c = (search rules, search filling-room)
 
-pub overflow_add-i : goal.overflow_add-i
-overflow_add-i c = omega arith
-
-pub loop-i-smaller : goal.loop-i-smaller
-loop-i-smaller c = omega arith
-
 pub loop-i-preserved : goal.loop-i-preserved
 loop-i-preserved c = filling-on _ _ _ _ _ _ _ _ _ (search rules) (search rules) _ (search rules) _ _ c.list_call-m.ensures
-
-pub shape_of-table : goal.shape_of-table
-shape_of-table c = omega arith
 
 pub returns : goal.returns
 returns c = search filling-done

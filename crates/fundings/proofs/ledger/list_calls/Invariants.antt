@@ -1,8 +1,5 @@
 -- Whoever lists the calls that are left has listed all.
-use borrow.Author.Rules.{rules}
-use native.Mathlib.Omega.{arith}
-use Prim.Native.Nat.{◌-◌}
-use lib.ListN.{length}
+use Rattle.std.proofs.Common.{rules, arith, ◌-◌, length}
 use Rattle.fields.specs.Field.{front}
 use Rattle.fundings.proofs.Filling.{Filling, filling-all, filling-room, filling-on, filling-done}
 use Rattle.fundings.proofs.ledger.list_calls.Given as goal

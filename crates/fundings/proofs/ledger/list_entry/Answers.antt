@@ -1,5 +1,5 @@
 -- A table that has room for all calls holds them: the small one where the count says so, and the large one always.
-use borrow.Author.Rules.{rules}
+use Rattle.std.proofs.Common.{rules}
 use Rattle.laws.proofs.Slices.{take_count}
 use Rattle.fundings.proofs.Filling.{no-fundings, room-made, calls-room, calls_count, calls-front}
 use Rattle.fundings.proofs.ledger.list_entry.Goals as goal

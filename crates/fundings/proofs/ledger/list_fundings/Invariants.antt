@@ -1,7 +1,5 @@
 -- What stands in front of an entry is what is cut off, so its place is known; whoever lists those that are left has listed all.
-use borrow.Author.Rules.{rules}
-use native.Mathlib.Omega.{arith}
-use lib.ListN.{length}
+use Rattle.std.proofs.Common.{rules, arith, length}
 use Rattle.laws.proofs.Told.{told_is}
 use Rattle.fields.proofs.Rows.{from_less}
 use Rattle.fundings.proofs.Entering.{Entering, entering-first, entering-here, entering-on, entering-done}

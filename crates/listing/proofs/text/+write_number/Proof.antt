@@ -1,5 +1,5 @@
 -- The digits of a tenth of the number, and then the last one.
-use borrow.Author.Rules.{rules}
+use Rattle.std.proofs.Common.{rules}
 use Rattle.listing.proofs.Decimal.{number-one, number_more, tenth-less}
 use Rattle.output.proofs.Buffer.{written-within, same-room}
 use Rattle.listing.proofs.text.write_number.Reads as write-number

@@ -1,5 +1,5 @@
 -- A cover takes what it names, and a rejection nothing.
-use borrow.Author.Rules.{rules}
+use Rattle.std.proofs.Common.{rules}
 use Rattle.matching.proofs.Answering.{marks-covered, marks-rejected}
 use Rattle.matching.proofs.answer.after_answer.Statement.{statement}
 use Rattle.matching.proofs.answer.after_answer.Tie as tie

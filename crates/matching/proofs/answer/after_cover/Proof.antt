@@ -1,5 +1,5 @@
 -- Each kind of cover takes what it names.
-use borrow.Author.Rules.{rules}
+use Rattle.std.proofs.Common.{rules}
 use Rattle.matching.proofs.Covering.{after-equal-debit, after-equal-parameter, after-bounding-debit, after-bounding-parameter, after-reserve}
 use Rattle.matching.proofs.answer.after_cover.Statement.{statement}
 use Rattle.matching.proofs.answer.after_cover.Tie as tie

@@ -1,5 +1,5 @@
 -- The answer is the definition's with the marks that the code's stand for, and what it takes away is what the definition takes.
-use borrow.Author.Rules.{rules}
+use Rattle.std.proofs.Common.{rules}
 use Rattle.matching.proofs.Whole.{answers-all, uses-few}
 use Rattle.matching.proofs.answer.answer_payout.Statement.{statement}
 use Rattle.matching.proofs.answer.answer_payout.Tie as tie

@@ -1,5 +1,5 @@
 -- What the search finds decides, and where it finds nothing a reserve does.
-use borrow.Author.Rules.{rules}
+use Rattle.std.proofs.Common.{rules}
 use Rattle.matching.proofs.Answering.{bounding-none, bounding-conflict, bounding-covers}
 use Rattle.matching.proofs.answer.by_bounding.Statement.{statement}
 use Rattle.matching.proofs.answer.by_bounding.Tie as tie

@@ -1,5 +1,5 @@
 -- What the search finds decides, and where it finds nothing the rest does.
-use borrow.Author.Rules.{rules}
+use Rattle.std.proofs.Common.{rules}
 use Rattle.matching.proofs.Answering.{equal-none, equal-conflict, equal-covers}
 use Rattle.matching.proofs.answer.by_equal.Statement.{statement}
 use Rattle.matching.proofs.answer.by_equal.Tie as tie

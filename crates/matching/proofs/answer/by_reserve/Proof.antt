@@ -1,5 +1,5 @@
 -- The first covering reserve decides, and where there is none the payout is rejected.
-use borrow.Author.Rules.{rules}
+use Rattle.std.proofs.Common.{rules}
 use Rattle.matching.proofs.Answering.{reserve-none, reserve-covers}
 use Rattle.matching.proofs.answer.by_reserve.Statement.{statement}
 use Rattle.matching.proofs.answer.by_reserve.Tie as tie

@@ -1,5 +1,5 @@
 -- Its index is among the used ones, or it is not.
-use borrow.Author.Rules.{rules}
+use Rattle.std.proofs.Common.{rules}
 use Rattle.matching.proofs.Answering.{reserve-used, reserve-unused}
 use Rattle.matching.proofs.answer.by_reserve_at.Statement.{statement}
 use Rattle.matching.proofs.answer.by_reserve_at.Tie as tie

@@ -1,5 +1,5 @@
 -- A split without an amount is rejected, and else the steps decide.
-use borrow.Author.Rules.{rules}
+use Rattle.std.proofs.Common.{rules}
 use Rattle.matching.proofs.Answering.{answer-split, answer-equal}
 use Rattle.matching.proofs.answer.cover_payout.Statement.{statement}
 use Rattle.matching.proofs.answer.cover_payout.Tie as tie

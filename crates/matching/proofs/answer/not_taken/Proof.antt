@@ -1,5 +1,5 @@
 -- A taken backing that equals the amount rejects, and else a bounding one decides.
-use borrow.Author.Rules.{rules}
+use Rattle.std.proofs.Common.{rules}
 use Rattle.matching.proofs.Answering.{taken-rejects, taken_none}
 use Rattle.matching.proofs.answer.not_taken.Statement.{statement}
 use Rattle.matching.proofs.answer.not_taken.Tie as tie

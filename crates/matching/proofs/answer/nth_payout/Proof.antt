@@ -1,5 +1,5 @@
 -- The payout stands at its place in the table.
-use borrow.Author.Rules.{rules}
+use Rattle.std.proofs.Common.{rules}
 use Rattle.matching.proofs.answer.nth_payout.Statement.{statement}
 use Rattle.matching.proofs.answer.nth_payout.Tie as tie
 

@@ -1,8 +1,6 @@
 -- A field's questions are by its tag and content; along a row, what is left answers as the whole. The content of a field is
 -- shorter than the row that it stands in.
-use Prim.Native.Nat.{◌+◌, ◌-◌, ◌*◌}
-use borrow.Author.Rules.{rules}
-use lib.ListN.{length}
+use Rattle.std.proofs.Common.{◌+◌, ◌-◌, ◌*◌, rules, length}
 use Rattle.questions.proofs.Asking.{Asking, too-deep, goes_in, allowed, not-allowed, room-inside, asking-all, asking-cut}
 use Rattle.questions.proofs.Asking.{asking-complete, asking-incomplete, asking-falls, asking-order, asking-stop}
 use Rattle.questions.proofs.Asking.{asking-inner, asking-room, asking-tag, asking-no, asking-on}

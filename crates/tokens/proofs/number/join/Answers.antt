@@ -1,6 +1,6 @@
 -- An empty set adds nothing, the same token neither, and two that differ leave 1.
 use Rattle.tokens.proofs.Joining.{joined-empty, joined-first, joined-equal, joined_same, joined-differ}
-use borrow.Author.Rules.{rules}
+use Rattle.std.proofs.Common.{rules}
 use Rattle.tokens.proofs.number.join.Goals as goal
 
 pub returns-then-b-eq0 : goal.returns-then-b-eq0

@@ -1,5 +1,5 @@
 -- The first no, or the matching.
-use borrow.Author.Rules.{rules}
+use Rattle.std.proofs.Common.{rules}
 use Rattle.entries.proofs.Reading.{entered}
 use Rattle.verdict.proofs.Placing.{told-tenth, left-tenth, told-eleventh, left-eleventh, told-twelfth, left-twelfth, told-unpaid, left-unpaid, told-matched, left-matched}
 use Rattle.verdict.proofs.entry.asked_verdict.Statement.{statement}

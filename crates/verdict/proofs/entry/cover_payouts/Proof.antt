@@ -1,5 +1,5 @@
 -- The candidates are all in the table.
-use borrow.Author.Rules.{rules}
+use Rattle.std.proofs.Common.{rules}
 use Rattle.verdict.proofs.Preparing.{payouts-room, candidates-fit, candidates-part, prepared}
 use Rattle.verdict.proofs.entry.cover_payouts.Statement.{statement}
 use Rattle.verdict.proofs.entry.cover_payouts.Tie as tie

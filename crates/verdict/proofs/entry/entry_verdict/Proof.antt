@@ -1,5 +1,5 @@
 -- The ninth question, or the verdict on the entry at its place.
-use borrow.Author.Rules.{rules}
+use Rattle.std.proofs.Common.{rules}
 use Rattle.verdict.proofs.Placing.{place_inside, told-ninth, left-ninth, told-placed, left-placed}
 use Rattle.verdict.proofs.entry.entry_verdict.Statement.{statement}
 use Rattle.verdict.proofs.entry.entry_verdict.Tie as tie

@@ -1,5 +1,5 @@
 -- Where nothing can be asked for, what was known stays as it is.
-use borrow.Author.Rules.{rules}
+use Rattle.std.proofs.Common.{rules}
 use Rattle.reserves.proofs.Remembering.{facts-relisted}
 use Rattle.verdict.proofs.entry.list_if_asked.Statement.{statement}
 use Rattle.verdict.proofs.entry.list_if_asked.Tie as tie

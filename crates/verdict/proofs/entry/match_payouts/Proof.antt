@@ -1,7 +1,5 @@
 -- Payout by payout: those before the k-th have their covers.
-use borrow.Author.Rules.{rules}
-use Prim.Native.Nat.{◌-◌}
-use native.Mathlib.Omega.{arith}
+use Rattle.std.proofs.Common.{rules, ◌-◌, arith}
 use Rattle.verdict.proofs.Running.{Running, running_none, running-held, running-kept, running-long, running-facts, running-room, running-wide, running-ready, running-next, running-on}
 use Rattle.verdict.proofs.Running.{rejected-coded, rejected-unwritten, done_coded, done-written, done-long}
 use Rattle.verdict.proofs.entry.match_payouts.Statement.{statement}

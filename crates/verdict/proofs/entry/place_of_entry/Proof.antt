@@ -1,5 +1,5 @@
 -- What is shown is the entry, or there is none.
-use borrow.Author.Rules.{rules}
+use Rattle.std.proofs.Common.{rules}
 use Rattle.laws.proofs.Told.{told}
 use Rattle.verdict.proofs.Asking.{place-nowhere, place-there}
 use Rattle.verdict.proofs.entry.place_of_entry.Statement.{statement}

@@ -1,5 +1,5 @@
 -- The entry is the one at the place.
-use borrow.Author.Rules.{rules}
+use Rattle.std.proofs.Common.{rules}
 use Rattle.entries.proofs.Reading.{lent-there}
 use Rattle.verdict.proofs.Placing.{told-there, left_there}
 use Rattle.verdict.proofs.entry.placed_verdict.Statement.{statement}

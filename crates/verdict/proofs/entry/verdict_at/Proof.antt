@@ -1,5 +1,5 @@
 -- There is room for the calls of every short file, and nothing is known at first.
-use borrow.Author.Rules.{rules}
+use Rattle.std.proofs.Common.{rules}
 use Rattle.reserves.proofs.Remembering.{facts-none}
 use Rattle.verdict.proofs.entry.verdict_at.Statement.{statement}
 use Rattle.verdict.proofs.entry.verdict_at.Tie as tie

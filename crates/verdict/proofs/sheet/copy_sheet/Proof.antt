@@ -1,6 +1,5 @@
 -- The bytes before i are copied.
-use Prim.Native.Nat.{◌-◌}
-use borrow.Author.Rules.{rules}
+use Rattle.std.proofs.Common.{◌-◌, rules}
 use Rattle.verdict.proofs.Written.{Copying, copying-none, copying-same, copying-there, copying-on, copying-done}
 use Rattle.verdict.proofs.sheet.copy_sheet.Statement.{statement}
 use Rattle.verdict.proofs.sheet.copy_sheet.Tie as tie

@@ -1,5 +1,5 @@
 -- Case by case.
-use borrow.Author.Rules.{rules}
+use Rattle.std.proofs.Common.{rules}
 use Rattle.claim.specs.Verdict.{index}
 use Rattle.verdict.proofs.sheet.index_of.Statement.{statement}
 use Rattle.verdict.proofs.sheet.index_of.Tie as tie

@@ -1,5 +1,5 @@
 -- Case by case.
-use borrow.Author.Rules.{rules}
+use Rattle.std.proofs.Common.{rules}
 use Rattle.claim.specs.Verdict.{kind}
 use Rattle.verdict.proofs.sheet.kind_of.Statement.{statement}
 use Rattle.verdict.proofs.sheet.kind_of.Tie as tie

@@ -1,5 +1,5 @@
 -- Three bytes, one behind the other.
-use borrow.Author.Rules.{rules}
+use Rattle.std.proofs.Common.{rules}
 use Rattle.verdict.proofs.Written.{second-there, third-there, three-written}
 use Rattle.verdict.proofs.sheet.write_cover.Statement.{statement}
 use Rattle.verdict.proofs.sheet.write_cover.Tie as tie

@@ -1,8 +1,5 @@
 -- An expression lists itself and then its parts; of a list of parts, whoever lists what is left has listed all.
-use Prim.Native.Nat.{◌+◌, ◌*◌}
-use native.Mathlib.Omega.{arith}
-use borrow.Author.Rules.{rules}
-use lib.ListN.{length}
+use Rattle.std.proofs.Common.{◌+◌, ◌*◌, arith, rules, length}
 use Rattle.laws.proofs.Told.{told}
 use Rattle.tags.specs.Tag.{isExpression}
 use Rattle.fields.proofs.Reading.{after_less}

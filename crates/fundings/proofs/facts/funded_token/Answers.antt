@@ -1,0 +1,7 @@
+-- The number stands for the token.
+use Rattle.std.proofs.Common.{rules}
+use Rattle.fundings.proofs.Shown.{funding-read}
+use Rattle.fundings.proofs.facts.funded_token.Goals as goal
+
+pub returns : goal.returns
+returns c = search funding-read

@@ -1,0 +1,19 @@
+-- The table has all calls of the body, and none that was passed funds the map.
+use Rattle.std.proofs.Common.{◌-◌, arith, rules}
+use Rattle.laws.proofs.Seeking.{Seeking, seeking-none}
+use Rattle.fields.specs.Field.{front}
+use Rattle.fundings.specs.FundingTokens.{funds}
+use Rattle.fundings.proofs.Funded.{fundingAt, funding-all, funding-found, funding-on}
+use Rattle.fundings.proofs.funding.entry_funds.Goals as goal
+
+pub loop-i-init : goal.loop-i-init
+loop-i-init c = search (funding-all, rules)
+
+pub returns-then-is_funding : goal.returns-then-is_funding
+returns-then-is_funding c = search funding-found
+
+pub loop-i-preserved : goal.loop-i-preserved
+loop-i-preserved c = search funding-on
+
+pub returns : goal.returns
+returns c = search seeking-none

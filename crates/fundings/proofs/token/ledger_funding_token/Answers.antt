@@ -1,0 +1,10 @@
+-- The number stands for the token, which stands where the definition says.
+use Rattle.std.proofs.Common.{rules}
+use Rattle.fundings.proofs.Shown.{funding-read, funding-there}
+use Rattle.fundings.proofs.token.ledger_funding_token.Goals as goal
+
+pub returns-clause-reads : goal.returns-clause-reads
+returns-clause-reads c = search funding-read
+
+pub returns-clause-shows : goal.returns-clause-shows
+returns-clause-shows c = search funding-there

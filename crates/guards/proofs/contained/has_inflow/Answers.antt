@@ -1,0 +1,21 @@
+-- The table has all members of the amount, and none that was passed is `p.amount`.
+use Rattle.std.proofs.Common.{◌-◌, arith, rules, length}
+use Rattle.fields.proofs.AtPlaces.{field_at, field_found, field-on}
+use Rattle.laws.proofs.Seeking.{Seeking, seeking-none}
+use Rattle.fields.specs.Field.{front}
+use Rattle.tokens.specs.Tokens.{isInflow}
+use Rattle.guards.specs.Members.{memberInflow}
+use Rattle.guards.proofs.Members.{members-any}
+use Rattle.guards.proofs.contained.has_inflow.Goals as goal
+
+pub loop-i-init : goal.loop-i-init
+loop-i-init c = search members-any
+
+pub returns-then-is_inflow : goal.returns-then-is_inflow
+returns-then-is_inflow c = search field_found
+
+pub loop-i-preserved : goal.loop-i-preserved
+loop-i-preserved c = search field-on
+
+pub returns : goal.returns
+returns c = search seeking-none

@@ -1,0 +1,25 @@
+-- Question 1 by the length, then the fields of the file.
+use Rattle.std.proofs.Common.{ℕ, ◌≤◌, ◌<◌, ◌≡◌, List, rules, le-leb, length}
+use borrow.Author.Tests.{lt-leb}
+use Rattle.fields.specs.Field.{fields}
+use Rattle.grammar.specs.Grammar.{slots_of}
+use Rattle.questions.specs.Questions.{askFields, askForm}
+use Rattle.questions.specs.Answers.{asked}
+use Rattle.questions.specs.declared.check.Answer.{Answer}
+use Rattle.questions.specs.declared.check.Answer.TheVariants as answer
+use Rattle.questions.proofs.check.check_form.Goals as goal
+
+module _ (file : List ℕ) where
+  too_long : 32768 < length file → asked (answer.Refused 1 0) ≡ askForm file
+  unfolding askForm
+  too_long h = rw (lt-leb (length file) 32768 h)
+
+  by-fields : length file ≤ 32768 → (r : Answer) → asked r ≡ askFields (slots_of 0) 0 1 0 (fields file) → asked r ≡ askForm file
+  unfolding askForm
+  by-fields h r e = rw (le-leb (length file) 32768 h) e
+
+pub returns-then-file-gt32768 : goal.returns-then-file-gt32768
+returns-then-file-gt32768 c = search too_long
+
+pub returns : goal.returns
+returns c = search by-fields

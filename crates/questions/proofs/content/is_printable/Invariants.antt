@@ -1,0 +1,12 @@
+-- All bytes up to i pass, so what is left decides.
+use Rattle.std.proofs.Common.{ℕ, ◌-◌, ◌≡◌, refl, List, arith, length, get_or}
+use Rattle.laws.specs.Lists.{all}
+use Rattle.laws.proofs.Testing.{Testing, testing-none, testing-all, testing-fails, testing-on}
+use Rattle.tags.specs.Tag.{between}
+use Rattle.questions.proofs.content.is_printable.Given as goal
+
+abbrev pub invariant-loop-i : goal.invariant-loop-i
+invariant-loop-i l = Testing (between 0x20 0x7E) l.text l.i (all (between 0x20 0x7E) l.text)
+
+abbrev pub decreases-loop-i : goal.decreases-loop-i
+decreases-loop-i l = length l.text - l.i

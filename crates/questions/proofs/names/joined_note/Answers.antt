@@ -1,0 +1,19 @@
+-- The one test decides.
+use Rattle.std.proofs.Common.{ℕ, ◌≡◌, true, false, ◌||◌, eqb}
+use Rattle.questions.specs.Noted.{joinedNote}
+use Rattle.questions.proofs.names.joined_note.Goals as goal
+
+module _ (held note : ℕ) where
+  alone : eqb held 0 || eqb held note ≡ true → note ≡ joinedNote held note
+  unfolding joinedNote
+  alone h = rw h
+
+  differing : eqb held 0 || eqb held note ≡ false → 255 ≡ joinedNote held note
+  unfolding joinedNote
+  differing h = rw h
+
+pub returns-then-held-note : goal.returns-then-held-note
+returns-then-held-note c = search alone
+
+pub returns : goal.returns
+returns c = search differing

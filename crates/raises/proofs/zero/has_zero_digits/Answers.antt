@@ -1,0 +1,21 @@
+-- Every byte that was passed is 0 or _, so those that are left decide.
+use Rattle.std.proofs.Common.{ℕ, ◌-◌, refl, List, arith, rules, length}
+use Rattle.laws.proofs.Testing.{Testing, testing-none, testing-all, testing-fails, testing-on}
+use Rattle.raises.specs.Raising.{zeroDigit, zeroDigits}
+use Rattle.raises.proofs.zero.has_zero_digits.Goals as goal
+
+all_left : (l : List ℕ) → Testing zeroDigit l 0 (zeroDigits l)
+unfolding zeroDigits
+all_left l = testing-none zeroDigit l _ refl
+
+pub loop-i-init : goal.loop-i-init
+loop-i-init c = search all_left
+
+pub returns-then-not-is_zero_digit : goal.returns-then-not-is_zero_digit
+returns-then-not-is_zero_digit c = search testing-fails
+
+pub loop-i-preserved : goal.loop-i-preserved
+loop-i-preserved c = search testing-on
+
+pub returns : goal.returns
+returns c = search testing-all

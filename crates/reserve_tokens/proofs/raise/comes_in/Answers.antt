@@ -1,0 +1,25 @@
+-- An amount with no backer has the empty name, of which it is known whether a parameter has it; a backer is looked for.
+use Rattle.std.proofs.Common.{ℕ, ◌≡◌, ◌∙◌, Bool, List, rules, length}
+use Rattle.laws.specs.Lists.{any}
+use Rattle.laws.specs.Texts.{sameBytes}
+use Rattle.laws.proofs.Lists.{no-elements}
+use Rattle.fields.specs.Field.{Field}
+use Rattle.walking.specs.Walking.{assetAmountBacker, assetParams}
+use Rattle.tokens.specs.Tokens.{isInflow}
+use Rattle.reserve_tokens.specs.Reserving.{nameless}
+use Rattle.reserve_tokens.proofs.raise.comes_in.Goals as goal
+
+module _ (entry v : Field) (x : List ℕ) (e : x ≡ assetAmountBacker v) where
+  no-backer : length x ≡ 0 → (n : Bool) → n ≡ nameless entry → n ≡ isInflow entry v
+  unfolding isInflow nameless
+  no-backer h n f = f ∙ rw (← e, no-elements x h)
+
+  by-backer : (b : Bool) → b ≡ any (sameBytes x) (assetParams entry) → b ≡ isInflow entry v
+  unfolding isInflow
+  by-backer b f = f ∙ rw e
+
+pub returns-then-backer-eq0 : goal.returns-then-backer-eq0
+returns-then-backer-eq0 c = search no-backer
+
+pub returns : goal.returns
+returns c = search by-backer

@@ -1,0 +1,14 @@
+-- The lent table has room for all calls of the entry.
+use Rattle.std.proofs.Common.{rules}
+use Rattle.fundings.proofs.Filling.{room-lent, calls-room, calls_count}
+use Rattle.reserve_tokens.proofs.Reserving.{entry_known}
+use Rattle.reserve_tokens.proofs.reserve.after_entry.Goals as goal
+
+pub slice_bounds-after_raises-end : goal.slice_bounds-after_raises-end
+slice_bounds-after_raises-end c = search (calls-room, room-lent)
+
+pub slice_bounds-after_raises-end-2 : goal.slice_bounds-after_raises-end-2
+slice_bounds-after_raises-end-2 c = search (calls_count, room-lent)
+
+pub after_raises-requires-clause-entry : goal.after_raises-requires-clause-entry
+after_raises-requires-clause-entry c = search entry_known

@@ -1,0 +1,21 @@
+-- Raise by raise, the token agreed on so far and those ahead have the one token of all; one that bars the field leaves none.
+use Rattle.std.proofs.Common.{rules, length, drop}
+use Rattle.laws.proofs.Told.{told_is}
+use Rattle.fields.specs.Field.{front}
+use Rattle.reserve_tokens.proofs.Reserving.{Raises, raises-all, raises-barred, raises-on, raises-done, ahead-less}
+use Rattle.reserve_tokens.proofs.reserve.after_raises.Goals as goal
+
+pub loop-t-init : goal.loop-t-init
+loop-t-init c = search raises-all
+
+pub returns-then-next-eq0 : goal.returns-then-next-eq0
+returns-then-next-eq0 c = search (raises-barred, told_is)
+
+pub loop-t-smaller : goal.loop-t-smaller
+loop-t-smaller c = search (ahead-less, told_is)
+
+pub loop-t-preserved : goal.loop-t-preserved
+loop-t-preserved c = search (raises-on, told_is)
+
+pub returns : goal.returns
+returns c = search (raises-done, told_is)

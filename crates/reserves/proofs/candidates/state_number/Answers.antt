@@ -1,0 +1,30 @@
+-- Those that were passed have another name, and so are counted.
+use Rattle.std.proofs.Common.{ℕ, suc, ◌+◌, ◌^◌, ◌≤◌, ◌<◌, ◌≡◌, sym, ◌∙◌, Bool, true, false, cond, List, ◌∷◌, map, arith, rules, leb-true, w64, Fits, length}
+use Rattle.laws.specs.Lists.{any, position}
+use Rattle.laws.specs.Texts.{sameBytes}
+use Rattle.laws.proofs.Told.{told}
+use Rattle.tags.specs.Tag.{State}
+use Rattle.fields.specs.Field.{fields, length_of, whole, after, front, from, fieldsFrom}
+use Rattle.fields.proofs.Rows.{ahead, from_row, from_less, from-shorter}
+use Rattle.model.specs.Model.{name_of, stateNames}
+use Rattle.reserves.specs.Candidates.{stateIndex, stateNumber}
+use Rattle.reserves.proofs.candidates.state_number.Invariants.{none_passed, none_left, found, fits, one_more}
+use Rattle.reserves.proofs.candidates.state_number.Goals as goal
+
+pub loop-t-init : goal.loop-t-init
+loop-t-init c = search none_passed
+
+pub returns-then-same_bytes : goal.returns-then-same_bytes
+returns-then-same_bytes c = search found
+
+pub overflow_add-n : goal.overflow_add-n
+overflow_add-n c = search (fits, rules)
+
+pub loop-t-smaller : goal.loop-t-smaller
+loop-t-smaller c = search (from_less, told)
+
+pub loop-t-preserved : goal.loop-t-preserved
+loop-t-preserved c = search one_more
+
+pub returns : goal.returns
+returns c = search (none_left, told)

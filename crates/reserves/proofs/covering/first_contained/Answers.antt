@@ -1,0 +1,27 @@
+-- An amount that does not contain what comes in is not covered.
+use Rattle.std.proofs.Common.{ℕ, ◌≡◌, ◌∙◌, Bool, true, false, cond, not, List, rules, drop}
+use borrow.Author.Tests.{not-true, not-false}
+use Rattle.fields.specs.Field.{Field, front}
+use Rattle.guards.specs.Guards.{containsInflow}
+use Rattle.guards.specs.Asked.{askedToken}
+use Rattle.reserves.specs.Holding.{holdsToken}
+use Rattle.reserves.specs.Covers.{firstCovering}
+use Rattle.reserves.specs.declared.covering.Reserve.{Reserve}
+use Rattle.reserves.specs.declared.covering.Reserve.TheVariants.{Nothing}
+use Rattle.reserves.proofs.covering.first_contained.Goals as goal
+
+module _ (file : List ℕ) (place : ℕ) (asked : List ℕ) (k : ℕ) (v : Field) (l x : List ℕ) (e : x ≡ drop place file) (b : Bool) (f : b ≡ containsInflow (front x) v) where
+  abbrev wanted : Reserve
+  wanted = cond (containsInflow (front (drop place file)) v) (firstCovering file v (holdsToken file (askedToken file asked k)) l) Nothing
+
+  not-contained : not b ≡ true → Nothing ≡ wanted
+  not-contained h = rw (← e, ← f, not-true b h)
+
+  contained : not b ≡ false → (t : List ℕ) → t ≡ askedToken file asked k → (r : Reserve) → r ≡ firstCovering file v (holdsToken file t) l → r ≡ wanted
+  contained h t g r q = q ∙ rw (g, ← e, ← f, not-false b h)
+
+pub returns-then-not-contains_inflow-clause-found : goal.returns-then-not-contains_inflow-clause-found
+returns-then-not-contains_inflow-clause-found c = search not-contained
+
+pub returns-clause-found : goal.returns-clause-found
+returns-clause-found c = search contained

@@ -1,0 +1,7 @@
+-- The number's token is compared with the one that is asked for.
+use Rattle.std.proofs.Common.{rules}
+use Rattle.reserves.proofs.Remembering.{by_number}
+use Rattle.reserves.proofs.holding.holds_token.Goals as goal
+
+pub returns-clause-holds : goal.returns-clause-holds
+returns-clause-holds c = search by_number

@@ -1,0 +1,21 @@
+-- A token is known if it has bytes.
+use Rattle.std.proofs.Common.{ℕ, ◌≡◌, Bool, false, List, length, rules}
+use Rattle.laws.specs.Texts.{sameBytes}
+use Rattle.laws.proofs.Texts.{unknown, is_known}
+use Rattle.reserves.specs.Holding.{isToken}
+use Rattle.reserves.proofs.holding.is_token.Goals as goal
+
+module _ (t u : List ℕ) where
+  no-token : length u ≡ 0 → false ≡ isToken t u
+  unfolding isToken
+  no-token e = rw (unknown u e)
+
+  some-token : (length u ≡ 0 → ⊥) → (b : Bool) → b ≡ sameBytes t u → b ≡ isToken t u
+  unfolding isToken
+  some-token n b e = rw (is_known u n, e)
+
+pub returns-then-u-eq0 : goal.returns-then-u-eq0
+returns-then-u-eq0 c = search no-token
+
+pub returns : goal.returns
+returns c = search some-token

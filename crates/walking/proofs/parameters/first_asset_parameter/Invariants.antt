@@ -1,0 +1,14 @@
+-- A parameter of another type is passed over, and the asset parameters are still ahead.
+use Rattle.std.proofs.Common.{rules, length}
+use Rattle.laws.proofs.Told.{told}
+use Rattle.tags.specs.Tag.{Parameter}
+use Rattle.fields.proofs.Rows.{from_less}
+use Rattle.fields.proofs.Choosing.{Choosing, choosing-first, choosing-here, choosing-on, choosing-none}
+use Rattle.walking.specs.Walking.{isAssetParameter}
+use Rattle.walking.proofs.parameters.first_asset_parameter.Given as goal
+
+abbrev pub invariant-loop-t : goal.invariant-loop-t
+invariant-loop-t l = Choosing Parameter Parameter isAssetParameter l.s l.t
+
+abbrev pub decreases-loop-t : goal.decreases-loop-t
+decreases-loop-t l = length l.t

@@ -1,0 +1,28 @@
+-- Whoever lists what is left of the row has listed all.
+use Rattle.std.proofs.Common.{flat_map, arith, rules, length}
+use Rattle.laws.proofs.Told.{told}
+use Rattle.fields.specs.Field.{placed}
+use Rattle.fields.proofs.Reading.{after_less}
+use Rattle.walking.specs.Walking.{stmtExprs}
+use Rattle.walking.specs.Table.{places_of}
+use Rattle.fields.proofs.Listing.{along-fits, Listing, listing-all, listing-on, listing-done}
+use Rattle.walking.proofs.Visits.{statements}
+use Rattle.walking.proofs.walk.visit_statements.Goals as goal
+
+pub loop-t-init : goal.loop-t-init
+loop-t-init c = search listing-all
+
+pub overflow_add-at-in-loop-t : goal.overflow_add-at-in-loop-t
+overflow_add-at-in-loop-t c = search (along-fits, told)
+
+pub loop-t-smaller : goal.loop-t-smaller
+loop-t-smaller c = search (after_less, told)
+
+pub loop-t-preserved : goal.loop-t-preserved
+loop-t-preserved c = search (listing-on statements, told)
+
+pub shape_of-table : goal.shape_of-table
+shape_of-table c = omega arith
+
+pub returns : goal.returns
+returns c = search (listing-done statements, told)
