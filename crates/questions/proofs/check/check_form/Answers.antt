@@ -1,5 +1,5 @@
 -- Question 1 by the length, then the fields of the file.
-use Rattle.std.proofs.Common.{ℕ, ◌≤◌, ◌<◌, ◌≡◌, List, rules, le-leb, length}
+use Rattle.std.proofs.Common.{ℕ, ◌≤◌, ◌<◌, ◌≡◌, List, le-leb, length}
 use borrow.Author.Tests.{lt-leb}
 use Rattle.fields.specs.Field.{fields}
 use Rattle.grammar.specs.Grammar.{slots_of}

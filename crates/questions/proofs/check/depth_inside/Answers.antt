@@ -1,5 +1,5 @@
 -- One deeper inside an expression, and 1 anywhere else.
-use Rattle.std.proofs.Common.{ℕ, ◌+◌, ◌≡◌, true, false, arith, add-one, rules}
+use Rattle.std.proofs.Common.{ℕ, ◌+◌, ◌≡◌, true, false, arith, add-one}
 use Rattle.laws.proofs.Told.{told}
 use Rattle.tags.specs.Tag.{isExpression}
 use Rattle.questions.specs.Questions.{depthInside}

@@ -1,5 +1,5 @@
 -- The three cases of the rule: no text, an empty text, a text with bytes.
-use Rattle.std.proofs.Common.{ℕ, ◌≡◌, refl, sym, ◌∙◌, Bool, true, false, not, ◌&&◌, List, [], ◌∷◌, rules, eqb, leb, length}
+use Rattle.std.proofs.Common.{ℕ, ◌≡◌, refl, sym, ◌∙◌, Bool, true, false, not, ◌&&◌, List, [], ◌∷◌, eqb, leb, length}
 use mathlib.Core.Bool.{and-true}
 use lib.Dec.{eqb-suc-zero}
 use Rattle.laws.specs.Lists.{all}

@@ -1,5 +1,5 @@
 -- All bytes up to i pass, so what is left decides.
-use Rattle.std.proofs.Common.{ℕ, ◌-◌, ◌≡◌, refl, List, arith, length, get_or}
+use Rattle.std.proofs.Common.{ℕ, ◌≡◌, refl, List, get_or}
 use Rattle.laws.specs.Lists.{all}
 use Rattle.laws.proofs.Testing.{Testing, testing-none, testing-all, testing-fails, testing-on}
 use Rattle.tags.specs.Tag.{between}
@@ -14,20 +14,11 @@ as_read l i x e = rw e
 pub loop-i-init : goal.loop-i-init
 loop-i-init c = search all_left
 
-pub bounds-text-i : goal.bounds-text-i
-bounds-text-i c = omega arith
-
 pub returns-then-not-byte : goal.returns-then-not-byte
-returns-then-not-byte c = search (testing-fails, as_read)
-
-pub overflow_add-i : goal.overflow_add-i
-overflow_add-i c = omega arith
-
-pub loop-i-smaller : goal.loop-i-smaller
-loop-i-smaller c = omega arith
+returns-then-not-byte c = search testing-fails
 
 pub loop-i-preserved : goal.loop-i-preserved
-loop-i-preserved c = search (testing-on, as_read)
+loop-i-preserved c = search testing-on
 
 pub returns : goal.returns
 returns c = search testing-all

@@ -1,7 +1,7 @@
 -- All bytes up to i pass, so what is left decides.
-use Rattle.std.proofs.Common.{ℕ, ◌-◌, ◌≡◌, refl, List, arith, length, get_or}
+use Rattle.std.proofs.Common.{◌-◌, length}
 use Rattle.laws.specs.Lists.{all}
-use Rattle.laws.proofs.Testing.{Testing, testing-none, testing-all, testing-fails, testing-on}
+use Rattle.laws.proofs.Testing.{Testing}
 use Rattle.tags.specs.Tag.{between}
 use Rattle.questions.proofs.content.is_printable.Given as goal
 

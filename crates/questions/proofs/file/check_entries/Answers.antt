@@ -1,5 +1,5 @@
 -- The 65th entry stands at what is cut off in front of it.
-use Rattle.std.proofs.Common.{ℕ, ◌-◌, ◌≤◌, ◌≡◌, sym, ap, ◌∙◌, true, List, [], ◌∷◌, zero-add, rules, length, drop}
+use Rattle.std.proofs.Common.{ℕ, ◌-◌, ◌≤◌, ◌≡◌, sym, ap, ◌∙◌, true, List, [], ◌∷◌, zero-add, length, drop}
 use Rattle.laws.proofs.Lists.{no-elements}
 use Rattle.tags.specs.Tag.{Entry}
 use Rattle.fields.specs.Field.{Placed, fields, whole, fromNth, placedFrom}

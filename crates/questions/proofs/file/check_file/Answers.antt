@@ -1,5 +1,5 @@
 -- The first "no" of the three runs of questions is the answer.
-use Rattle.std.proofs.Common.{ℕ, ◌≡◌, List, [], rules}
+use Rattle.std.proofs.Common.{ℕ, ◌≡◌, List, []}
 use Rattle.fields.specs.Field.{fields}
 use Rattle.model.specs.Model.{states, entries}
 use Rattle.questions.specs.Questions.{askForm, askNames, at_most, askFile}

@@ -1,5 +1,5 @@
 -- What is left of the name, from the number so far, has the number of the whole name.
-use Rattle.std.proofs.Common.{ℕ, ◌+◌, ◌-◌, ◌*◌, ◌%◌, ◌≤◌, ◌<◌, ◌≡◌, refl, List, arith, rules, length, get_or, drop, drop_of_length-le}
+use Rattle.std.proofs.Common.{ℕ, ◌+◌, ◌-◌, ◌*◌, ◌%◌, ◌≤◌, ◌<◌, ◌≡◌, refl, List, arith, length, get_or, drop, drop_of_length-le}
 use Rattle.laws.proofs.Slices.{drop-step}
 use Rattle.questions.specs.Noted.{numberFrom, nameNumber}
 use Rattle.questions.proofs.names.name_number.Given as goal

@@ -1,5 +1,4 @@
 -- A table with room has a place for each number; one without shows every number.
-use Rattle.std.proofs.Common.{rules}
 use Rattle.questions.proofs.Noting.{no-room-shows, no-room-kept, has-place, place-shows, place-noted}
 use Rattle.questions.proofs.names.note_number.Goals as goal
 

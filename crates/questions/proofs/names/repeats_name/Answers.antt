@@ -1,5 +1,5 @@
 -- Only a state field is looked for among those before it, and only where the table shows its name.
-use Rattle.std.proofs.Common.{ℕ, ◌≡◌, sym, ◌∙◌, Bool, true, false, not, List, rules, eq-eqb, ne_eqb}
+use Rattle.std.proofs.Common.{ℕ, ◌≡◌, sym, ◌∙◌, Bool, true, false, not, List, eq-eqb, ne_eqb}
 use borrow.Author.Tests.{not-true}
 use Rattle.laws.specs.Lists.{any}
 use Rattle.laws.specs.Texts.{sameBytes}

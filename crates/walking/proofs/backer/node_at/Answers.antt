@@ -1,5 +1,5 @@
 -- The two cases of the definition, by what the readers say of s.
-use Rattle.std.proofs.Common.{ℕ, ◌+◌, ◌≡◌, Bool, true, false, ◌&&◌, List, rules, eqb}
+use Rattle.std.proofs.Common.{ℕ, ◌+◌, ◌≡◌, Bool, true, false, ◌&&◌, List, eqb}
 use Rattle.fields.specs.Field.{tag_of, length_of, whole}
 use Rattle.walking.specs.Node.{node_of}
 use Rattle.walking.specs.declared.backer.Node.TheVariants.{Found, Other}

@@ -1,7 +1,7 @@
 -- Those that were met and those that are left are all.
-use Rattle.std.proofs.Common.{rules, length}
+use Rattle.std.proofs.Common.{rules}
 use Rattle.laws.proofs.Told.{told}
-use Rattle.walking.proofs.Assets.{assets-fall, Counted, counted_none, counted-fits, counted-one, counted-all}
+use Rattle.walking.proofs.Assets.{assets-fall, counted_none, counted-fits, counted-one, counted-all}
 use Rattle.walking.proofs.parameters.count_asset_parameters.Goals as goal
 
 pub loop-t-init : goal.loop-t-init

@@ -1,7 +1,6 @@
 -- Those that were met and those that are left are all.
-use Rattle.std.proofs.Common.{rules, length}
-use Rattle.laws.proofs.Told.{told}
-use Rattle.walking.proofs.Assets.{assets-fall, Counted, counted_none, counted-fits, counted-one, counted-all}
+use Rattle.std.proofs.Common.{length}
+use Rattle.walking.proofs.Assets.{Counted}
 use Rattle.walking.proofs.parameters.count_asset_parameters.Given as goal
 
 abbrev pub invariant-loop-t : goal.invariant-loop-t

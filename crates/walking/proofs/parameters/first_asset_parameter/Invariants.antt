@@ -1,9 +1,7 @@
 -- A parameter of another type is passed over, and the asset parameters are still ahead.
-use Rattle.std.proofs.Common.{rules, length}
-use Rattle.laws.proofs.Told.{told}
+use Rattle.std.proofs.Common.{length}
 use Rattle.tags.specs.Tag.{Parameter}
-use Rattle.fields.proofs.Rows.{from_less}
-use Rattle.fields.proofs.Choosing.{Choosing, choosing-first, choosing-here, choosing-on, choosing-none}
+use Rattle.fields.proofs.Choosing.{Choosing}
 use Rattle.walking.specs.Walking.{isAssetParameter}
 use Rattle.walking.proofs.parameters.first_asset_parameter.Given as goal
 

@@ -1,7 +1,6 @@
 -- The name is among those that are left, or nowhere.
-use Rattle.std.proofs.Common.{rules, length}
 use Rattle.laws.proofs.Told.{told}
-use Rattle.walking.proofs.Assets.{assets-fall, Unfound, unfound-first, unfound-found, unfound-on, unfound-none}
+use Rattle.walking.proofs.Assets.{assets-fall, unfound-first, unfound-found, unfound-on, unfound-none}
 use Rattle.walking.proofs.parameters.has_asset_parameter.Goals as goal
 
 pub loop-t-init : goal.loop-t-init

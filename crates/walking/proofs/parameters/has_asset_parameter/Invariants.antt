@@ -1,7 +1,6 @@
 -- The name is among those that are left, or nowhere.
-use Rattle.std.proofs.Common.{rules, length}
-use Rattle.laws.proofs.Told.{told}
-use Rattle.walking.proofs.Assets.{assets-fall, Unfound, unfound-first, unfound-found, unfound-on, unfound-none}
+use Rattle.std.proofs.Common.{length}
+use Rattle.walking.proofs.Assets.{Unfound}
 use Rattle.walking.proofs.parameters.has_asset_parameter.Given as goal
 
 abbrev pub invariant-loop-t : goal.invariant-loop-t

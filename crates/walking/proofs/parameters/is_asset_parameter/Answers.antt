@@ -1,5 +1,5 @@
 -- The second part is the type name.
-use Rattle.std.proofs.Common.{◌≡◌, Bool, List, ℕ, rules}
+use Rattle.std.proofs.Common.{◌≡◌, Bool, List, ℕ}
 use Rattle.laws.specs.Texts.{bytes, sameBytes}
 use Rattle.fields.specs.Field.{front, text, part}
 use Rattle.walking.specs.Walking.{isAssetParameter}

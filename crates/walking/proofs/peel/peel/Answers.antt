@@ -1,5 +1,5 @@
 -- What stands at the place is the field without its wrappers.
-use Rattle.std.proofs.Common.{◌≡◌, List, ℕ, rules, drop, length}
+use Rattle.std.proofs.Common.{◌≡◌, List, ℕ, drop, length}
 use Rattle.fields.specs.Field.{front}
 use Rattle.walking.specs.Walking.{peel, peelPlace}
 use Rattle.walking.proofs.peel.peel.Goals as goal

@@ -1,14 +1,5 @@
 -- t is the inside of the wrappers passed so far, a part of s that starts at the place: peeling it is peeling s.
-use Rattle.std.proofs.Common.{◌≡◌, refl, sym, ap, ◌∙◌, Bool, true, false, not, cond, List, [], ◌++◌, append-nil, append_assoc, ℕ, ◌+◌, ◌-◌, ◌^◌, ◌≤◌, ◌<◌, min, arith, rules, leb-true, w64, Fits, length, take, drop, length-take, length-drop, take-append-drop, drop-drop}
-use borrow.Author.Tests.{not-true, not-false}
-use lib.Seq.{take-append_seam, drop-append-le, drop-length}
-use Rattle.tags.specs.Tag.{isWrapper}
-use Rattle.fields.specs.Field.{Field, fields, whole, length_of, front, tag, parts, sizes}
-use Rattle.fields.specs.Field.Field.{field}
-use Rattle.fields.specs.Field.Fields.{end}
-use Rattle.fields.proofs.Reading.{fields-next, fields-end, front-none}
-use Rattle.fields.proofs.Inside.{front-inside}
-use Rattle.walking.specs.Walking.{peel, peelFirst, peelPlace, peelFirstPlace}
+use Rattle.std.proofs.Common.{rules}
 use Rattle.walking.proofs.peel.peel_place.Invariants.{peeling-all, stop, stop-place, empty, empty-place, falls, in-range, on}
 use Rattle.walking.proofs.peel.peel_place.Goals as goal
 

@@ -1,5 +1,5 @@
 -- The text of a field is a name exactly where its tag is that of an identifier.
-use Rattle.std.proofs.Common.{◌≡◌, List, [], ℕ, rules, eq-eqb, ne_eqb, length, take, drop}
+use Rattle.std.proofs.Common.{◌≡◌, List, [], ℕ, eq-eqb, ne_eqb, length, take, drop}
 use Rattle.tags.specs.Tag.{Identifier}
 use Rattle.fields.specs.Field.{front, tag, text}
 use Rattle.walking.specs.Walking.{ident}

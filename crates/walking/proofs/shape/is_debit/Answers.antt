@@ -1,5 +1,5 @@
 -- Test by test, as the definition asks.
-use Rattle.std.proofs.Common.{◌≡◌, Bool, ◌&&◌, List, ℕ, rules, eqb}
+use Rattle.std.proofs.Common.{◌≡◌, Bool, ◌&&◌, List, ℕ, eqb}
 use Rattle.laws.specs.Texts.{bytes, sameBytes}
 use Rattle.tags.specs.Tag.{Identifier, Caller}
 use Rattle.fields.specs.Field.{front, tag, part}

@@ -1,5 +1,5 @@
 -- No field has the tag 0.
-use Rattle.std.proofs.Common.{◌≡◌, ℕ, rules, leb}
+use Rattle.std.proofs.Common.{◌≡◌, ℕ, leb}
 use Rattle.fields.specs.Field.{Field, tag}
 use Rattle.walking.specs.Walking.{present}
 use Rattle.walking.proofs.shape.is_present.Goals as goal

@@ -1,5 +1,5 @@
 -- The text of the callee's second part is a method's name exactly where a call has a member as its callee.
-use Rattle.std.proofs.Common.{◌≡◌, true, false, ◌&&◌, List, [], ℕ, rules, eqb}
+use Rattle.std.proofs.Common.{◌≡◌, true, false, ◌&&◌, List, [], ℕ, eqb}
 use Rattle.tags.specs.Tag.{Member, Call}
 use Rattle.fields.specs.Field.{front, tag, text, part}
 use Rattle.walking.specs.Walking.{method}

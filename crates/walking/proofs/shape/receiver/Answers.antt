@@ -1,5 +1,5 @@
 -- The identifier in the first part of the callee.
-use Rattle.std.proofs.Common.{◌≡◌, List, ℕ, rules}
+use Rattle.std.proofs.Common.{◌≡◌, List, ℕ}
 use Rattle.fields.specs.Field.{front, part}
 use Rattle.walking.specs.Walking.{ident, receiver}
 use Rattle.walking.proofs.shape.receiver.Goals as goal

@@ -1,5 +1,4 @@
 -- Of a statement its parts are listed, and of any other field nothing.
-use Rattle.std.proofs.Common.{rules}
 use Rattle.tags.specs.Tag.{isStatement}
 use Rattle.fields.proofs.Listing.{class-whole, down_fits, down-same}
 use Rattle.walking.proofs.Visits.{statement-zero, no-statement, statement-parts}

@@ -21,8 +21,5 @@ loop-t-smaller c = search (after_less, told)
 pub loop-t-preserved : goal.loop-t-preserved
 loop-t-preserved c = search (listing-on statements, told)
 
-pub shape_of-table : goal.shape_of-table
-shape_of-table c = omega arith
-
 pub returns : goal.returns
 returns c = search (listing-done statements, told)

@@ -10,7 +10,7 @@ use Rattle.walking.proofs.Visits.{statements}
 use Rattle.walking.proofs.walk.visit_statements.Given as goal
 
 abbrev pub invariant-loop-t : goal.invariant-loop-t
-invariant-loop-t l = Listing (λ l.t k fs. places_of l.t (flat_map stmtExprs (placed k fs))) l.tag l.s l.base l.initial.table l.n l.table l.t l.at l.m
+invariant-loop-t l = Listing (λ t k fs. places_of t (flat_map stmtExprs (placed k fs))) l.tag l.s l.base l.initial.table l.n l.table l.t l.at l.m
 
 abbrev pub decreases-loop-t : goal.decreases-loop-t
 decreases-loop-t l = length l.t
