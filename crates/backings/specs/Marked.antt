@@ -3,28 +3,28 @@ use Rattle.std.specs.Prelude.{ℕ, ◌+◌, Bool, true, false, cond, not, List, 
 use Rattle.backings.specs.declared.marks.Marks.{Marks as Coded}
 
 -- the mark of a number; past the last of 64 there is none
-unfoldable pub markAt : List Bool → ℕ → Bool
-markAt marks i = cond (ltb i 64) (get_or marks i false) false
+unfoldable pub mark_at : List Bool → ℕ → Bool
+mark_at marks i = cond (ltb i 64) (get_or marks i false) false
 
 -- a backing is free where its mark is set, and taken where it is not
-unfoldable pub freeAt : Coded → ℕ → Bool
-freeAt m i = markAt m.free i
+unfoldable pub free_at : Coded → ℕ → Bool
+free_at m i = mark_at m.free i
 
-unfoldable pub takenAt : Coded → ℕ → Bool
-takenAt m i = not (freeAt m i)
+unfoldable pub taken_at : Coded → ℕ → Bool
+taken_at m i = not (free_at m i)
 
 -- the reserve that was used as number i
-unfoldable pub usedAt : Coded → ℕ → ℕ
-usedAt m i = cond (ltb i 64) (get_or m.used i 0) 0
+unfoldable pub used_at : Coded → ℕ → ℕ
+used_at m i = cond (ltb i 64) (get_or m.used i 0) 0
 
 -- the marks of the start: 64 set, and no reserve used
-unfoldable pub allFree : Coded
-allFree = record { free = replicate 64 true; used = replicate 64 0; uses = 0 }
+unfoldable pub all_free : Coded
+all_free = record { free = replicate 64 true; used = replicate 64 0; uses = 0 }
 
 -- the marks without the free one of number i
 unfoldable pub without : Coded → ℕ → Coded
 without m i = cond (ltb i 64) (record { free = set m.free i false; used = m.used; uses = m.uses }) m
 
 -- the marks with one more reserve that is used; 64 find room
-unfoldable pub withUsed : Coded → ℕ → Coded
-withUsed m i = cond (ltb m.uses 64) (record { free = m.free; used = set m.used m.uses i; uses = m.uses + 1 }) m
+unfoldable pub with_used : Coded → ℕ → Coded
+with_used m i = cond (ltb m.uses 64) (record { free = m.free; used = set m.used m.uses i; uses = m.uses + 1 }) m

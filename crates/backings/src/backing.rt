@@ -4,14 +4,14 @@
 ghost use Rattle.std.specs.Prelude.{◌≡◌, not, false, ◌≤◌, length, drop};
 ghost use Rattle.fields.specs.Field.{front, part};
 ghost use Rattle.walking.specs.Walking.{peel};
-ghost use Rattle.equality.specs.Equality.{exprEq};
-ghost use Rattle.bounds.specs.Bounds.{boundedByBacking};
-ghost use Rattle.bounds.specs.Backing.{backingField};
-ghost use Rattle.tokens.specs.Tokens.{differ, admittedInflowToken};
-ghost use Rattle.tokens.specs.Numbers.{tokenOf};
+ghost use Rattle.equality.specs.Equality.{expr_eq};
+ghost use Rattle.bounds.specs.Bounds.{bounded_by_backing};
+ghost use Rattle.bounds.specs.Backing.{backing_field};
+ghost use Rattle.tokens.specs.Tokens.{differ, admitted_inflow_token};
+ghost use Rattle.tokens.specs.Numbers.{token_of};
 ghost use Rattle.fundings.specs.Funded.{Funded};
-ghost use Rattle.guards.specs.Payouts.{payoutToken};
-ghost use Rattle.backings.specs.Tables.{Admitted, backingIn, amountIn, tokenAt};
+ghost use Rattle.guards.specs.Payouts.{payout_token};
+ghost use Rattle.backings.specs.Tables.{Admitted, backing_in, amount_in, token_at};
 
 use bounds::{backing_eq, bounded_by};
 use entries::entry::Entry;
@@ -43,7 +43,7 @@ pub struct Backing {
 
 // Backing number i of those whose places are in a table, the debits first.
 pub fn nth_backing(backed: &[u16; 64], debits: usize, i: usize) -> Backing
-    ensures { result ≡ backingIn backed.now debits i }
+    ensures { result ≡ backing_in backed.now debits i }
 {
     Backing {
         at: number_at(backed, i),
@@ -53,7 +53,7 @@ pub fn nth_backing(backed: &[u16; 64], debits: usize, i: usize) -> Backing
 
 // The part of the file by which the amount of a backing is known: the expression of a debit, the name of a parameter.
 fn backing_part(file: &[u8], backing: Backing) -> &[u8]
-    ensures { backingField (not backing.debit) result.now ≡ amountIn file.now backing }
+    ensures { backing_field (not backing.debit) result.now ≡ amount_in file.now backing }
 {
     if backing.debit {
         return debit_amount(skip(file, backing.at));
@@ -63,14 +63,14 @@ fn backing_part(file: &[u8], backing: Backing) -> &[u8]
 
 // Whether the amount of a backing equals the expression at the front of s. Every comparison of amounts is this one.
 pub fn backing_equals(file: &[u8], backing: Backing, s: &[u8]) -> bool
-    ensures { result ≡ exprEq (amountIn file.now backing) (front s.now) }
+    ensures { result ≡ expr_eq (amount_in file.now backing) (front s.now) }
 {
     backing_eq(backing_part(file, backing), !backing.debit, s)
 }
 
 // Whether a backing bounds the expression at the front of s.
 pub fn backing_bounds(file: &[u8], backing: Backing, s: &[u8]) -> bool
-    ensures { result ≡ boundedByBacking (front s.now) (amountIn file.now backing) false }
+    ensures { result ≡ bounded_by_backing (front s.now) (amount_in file.now backing) false }
 {
     bounded_by(s, backing_part(file, backing), !backing.debit, false)
 }
@@ -80,7 +80,7 @@ pub fn backing_bounds(file: &[u8], backing: Backing, s: &[u8]) -> bool
 fn admitted_number(entry: &[u8], admitted: usize) -> usize
     requires small { length entry.now ≤ 32768 }
     requires admits { Admitted entry.now admitted }
-    ensures { tokenOf entry.now result ≡ admittedInflowToken (front entry.now) }
+    ensures { token_of entry.now result ≡ admitted_inflow_token (front entry.now) }
 {
     if admitted != NOT_YET {
         return admitted;
@@ -108,7 +108,7 @@ pub fn tokens_conflict(
     requires small { length file.now ≤ 32768 }
     requires funded { Funded file.now facts.now }
     requires admits { Admitted (drop entry.place file.now) admitted }
-    ensures answer { result.conflict ≡ differ (tokenAt file.now entry i) (payoutToken (front s.now)) }
+    ensures answer { result.conflict ≡ differ (token_at file.now entry i) (payout_token (front s.now)) }
     ensures admits { Admitted (drop entry.place file.now) result.admitted }
 {
     if i < entry.debits {

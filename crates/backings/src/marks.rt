@@ -1,14 +1,14 @@
 // SPDX-License-Identifier: Apache-2.0 OR MIT
 // Which backings are free, and which reserves are used: a state by value, which each payout hands back.
 ghost use Rattle.std.specs.Prelude.{◌≡◌, ◌&&◌, false, ◌+◌, eqb, ltb};
-ghost use Rattle.laws.specs.Numbers.{downFrom};
+ghost use Rattle.laws.specs.Numbers.{down_from};
 ghost use Rattle.laws.specs.Lists.{any};
 ghost use Rattle.fields.specs.Field.{front};
-ghost use Rattle.equality.specs.Equality.{exprEq};
-ghost use Rattle.bounds.specs.Bounds.{boundedByBacking};
-ghost use Rattle.guards.specs.Payouts.{payoutAmount};
-ghost use Rattle.backings.specs.Tables.{amountIn, equalTo, boundedBy, firstFree, firstTaken};
-ghost use Rattle.backings.specs.Marked.{allFree, markAt, usedAt, without, withUsed};
+ghost use Rattle.equality.specs.Equality.{expr_eq};
+ghost use Rattle.bounds.specs.Bounds.{bounded_by_backing};
+ghost use Rattle.guards.specs.Payouts.{payout_amount};
+ghost use Rattle.backings.specs.Tables.{amount_in, equal_to, bounded_by, first_free, first_taken};
+ghost use Rattle.backings.specs.Marked.{all_free, mark_at, used_at, without, with_used};
 
 use super::backing::{Backing, backing_bounds, backing_equals, nth_backing};
 use entries::entry::Entry;
@@ -26,7 +26,7 @@ pub struct Marks {
 
 // Every backing is free.
 pub fn all_free() -> Marks
-    ensures { result ≡ allFree }
+    ensures { result ≡ all_free }
 {
     Marks {
         free: [true; 64],
@@ -37,7 +37,7 @@ pub fn all_free() -> Marks
 
 // Whether backing number i is free, by the marks of the free ones.
 fn is_free(free: &[bool; 64], i: usize) -> bool
-    ensures { result ≡ markAt free.now i }
+    ensures { result ≡ mark_at free.now i }
 {
     if i < 64 {
         return free[i];
@@ -71,7 +71,7 @@ pub fn take_parameter(marks: Marks, count: usize, index: usize) -> Marks
 
 // The marks with one more reserve that is used.
 pub fn take_reserve(mut marks: Marks, index: usize) -> Marks
-    ensures { result ≡ withUsed marks index }
+    ensures { result ≡ with_used marks index }
 {
     let uses = marks.uses;
     if uses < 64 {
@@ -84,7 +84,7 @@ pub fn take_reserve(mut marks: Marks, index: usize) -> Marks
 
 // The reserve that was used as number i.
 fn used_at(marks: Marks, i: usize) -> usize
-    ensures { result ≡ usedAt marks i }
+    ensures { result ≡ used_at marks i }
 {
     if i < 64 {
         return marks.used[i];
@@ -94,7 +94,7 @@ fn used_at(marks: Marks, i: usize) -> usize
 
 // Whether the state field with an index is used.
 pub fn is_used(marks: Marks, index: usize) -> bool
-    ensures { result ≡ any (eqb index) (downFrom (usedAt marks) marks.uses) }
+    ensures { result ≡ any (eqb index) (down_from (used_at marks) marks.uses) }
 {
     let mut i = marks.uses;
     while 0 < i {
@@ -108,7 +108,7 @@ pub fn is_used(marks: Marks, index: usize) -> bool
 
 // Whether a mark is set, and the backing equals the expression at the front of s.
 fn marked_equals(marked: bool, file: &[u8], backing: Backing, s: &[u8]) -> bool
-    ensures { result ≡ marked && exprEq (amountIn file.now backing) (front s.now) }
+    ensures { result ≡ marked && expr_eq (amount_in file.now backing) (front s.now) }
 {
     if !marked {
         return false;
@@ -118,7 +118,7 @@ fn marked_equals(marked: bool, file: &[u8], backing: Backing, s: &[u8]) -> bool
 
 // Whether a mark is set, and the backing bounds the expression at the front of s.
 fn marked_bounds(marked: bool, file: &[u8], backing: Backing, s: &[u8]) -> bool
-    ensures { result ≡ marked && boundedByBacking (front s.now) (amountIn file.now backing) false }
+    ensures { result ≡ marked && bounded_by_backing (front s.now) (amount_in file.now backing) false }
 {
     if !marked {
         return false;
@@ -129,7 +129,7 @@ fn marked_bounds(marked: bool, file: &[u8], backing: Backing, s: &[u8]) -> bool
 // The number of the first free backing that equals the amount of the payout at the front of s; the number of backings where
 // none does.
 pub fn first_equal(file: &[u8], entry: Entry, marks: Marks, s: &[u8]) -> usize
-    ensures { result ≡ firstFree file.now entry marks (equalTo (payoutAmount (front s.now))) }
+    ensures { result ≡ first_free file.now entry marks (equal_to (payout_amount (front s.now))) }
 {
     let amount = peel(payout_amount(s));
     let free = marks.free;
@@ -153,7 +153,7 @@ pub fn first_equal(file: &[u8], entry: Entry, marks: Marks, s: &[u8]) -> usize
 
 // Whether a taken backing equals it.
 pub fn is_taken(file: &[u8], entry: Entry, marks: Marks, s: &[u8]) -> bool
-    ensures { result ≡ ltb (firstTaken file.now entry marks (equalTo (payoutAmount (front s.now)))) entry.total }
+    ensures { result ≡ ltb (first_taken file.now entry marks (equal_to (payout_amount (front s.now)))) entry.total }
 {
     let amount = peel(payout_amount(s));
     let free = marks.free;
@@ -177,7 +177,7 @@ pub fn is_taken(file: &[u8], entry: Entry, marks: Marks, s: &[u8]) -> bool
 
 // The number of the first free backing that bounds it; the number of backings where none does.
 pub fn first_bounding(file: &[u8], entry: Entry, marks: Marks, s: &[u8]) -> usize
-    ensures { result ≡ firstFree file.now entry marks (boundedBy (payoutAmount (front s.now))) }
+    ensures { result ≡ first_free file.now entry marks (bounded_by (payout_amount (front s.now))) }
 {
     let amount = payout_amount(s);
     let free = marks.free;

@@ -2,64 +2,64 @@
 -- A missing part equals nothing and has no part, so nothing bounds it, and the rule may go into it all the same.
 use Rattle.std.proofs.Common.{ℕ, ◌<◌, ◌≡◌, refl, sym, Bool, true, false, not, ◌&&◌, ◌||◌, List, arith, length, take, drop, length-drop}
 use borrow.Author.Tests.{not-true, not-false}
-use Rattle.tags.specs.Tag.{isWrapper}
+use Rattle.tags.specs.Tag.{is_wrapper}
 use Rattle.fields.specs.Field.{Field, Fields, whole, front, tag, parts, part, nth, nothing, sizes}
 use Rattle.fields.specs.Field.Field.{field}
 use Rattle.fields.specs.Field.Fields.{end, next}
 use Rattle.fields.proofs.Parts.{tag-none}
 use Rattle.walking.specs.Walking.{peel}
 use Rattle.fields.proofs.Listing.{parts-shorter}
-use Rattle.equality.specs.Equality.{exprEq}
+use Rattle.equality.specs.Equality.{expr_eq}
 use Rattle.equality.proofs.Equality.{nothing_right}
-use Rattle.bounds.specs.Bounds.{goesLeft, wrappingInside, boundedByBacking, leftBounded}
-use Rattle.bounds.specs.Backing.{backingField}
+use Rattle.bounds.specs.Bounds.{goes_left, wrapping_inside, bounded_by_backing, left_bounded}
+use Rattle.bounds.specs.Backing.{backing_field}
 
 -- a missing amount is bounded by no backing
-pub nothing-bounded : (backing : Field) (wrapping : Bool) → boundedByBacking nothing backing wrapping ≡ false
-unfolding boundedByBacking goesLeft peel isWrapper
+pub nothing-bounded : (backing : Field) (wrapping : Bool) → bounded_by_backing nothing backing wrapping ≡ false
+unfolding bounded_by_backing goes_left peel is_wrapper
 nothing-bounded backing wrapping = rw (nothing_right backing)
 
 -- the first of some parts, there or missing
 left-bounded : (ps : Fields) (backing : Field) (wrapping : Bool) →
-    leftBounded ps backing wrapping ≡ boundedByBacking (nth 0 ps) backing wrapping
-unfolding leftBounded nth
+    left_bounded ps backing wrapping ≡ bounded_by_backing (nth 0 ps) backing wrapping
+unfolding left_bounded nth
 left-bounded (end r) backing wrapping = sym (nothing-bounded backing wrapping)
 left-bounded (next f fs) backing wrapping = refl
 
 -- one step of the rule, by the amount's tag and its first part
 pub bounded-step : (amount backing : Field) (wrapping : Bool) →
-    boundedByBacking amount backing wrapping
-    ≡ exprEq backing (peel amount)
-    || goesLeft (tag amount) wrapping && boundedByBacking (part 0 amount) backing (wrappingInside (tag amount) wrapping)
-unfolding boundedByBacking
-bounded-step (field t x ps) backing wrapping = rw (← left-bounded ps backing (wrappingInside t wrapping))
+    bounded_by_backing amount backing wrapping
+    ≡ expr_eq backing (peel amount)
+    || goes_left (tag amount) wrapping && bounded_by_backing (part 0 amount) backing (wrapping_inside (tag amount) wrapping)
+unfolding bounded_by_backing
+bounded-step (field t x ps) backing wrapping = rw (← left-bounded ps backing (wrapping_inside t wrapping))
 
 -- the part that the rule has come to, with wrapping on or off there, decides what was asked
 abbrev pub Bounding : (amount backing : List ℕ) → Bool → Bool → List ℕ → Bool → Type 0
 Bounding amount backing named wrapping t here =
-    boundedByBacking (front t) (backingField named backing) here ≡ boundedByBacking (front amount) (backingField named backing) wrapping
+    bounded_by_backing (front t) (backing_field named backing) here ≡ bounded_by_backing (front amount) (backing_field named backing) wrapping
 
 module _ (amount backing : List ℕ) (named wrapping : Bool) (t : List ℕ) (here : Bool) (i : Bounding amount backing named wrapping t here)
-    (x : List ℕ) (p : front x ≡ peel (front t)) (q : Bool) (e : q ≡ exprEq (backingField named backing) (front x)) where
-  step : q || goesLeft (tag (front t)) here && boundedByBacking (part 0 (front t)) (backingField named backing) (wrappingInside (tag (front t)) here)
-      ≡ boundedByBacking (front amount) (backingField named backing) wrapping
-  step = rw (e, p, ← bounded-step (front t) (backingField named backing) here) i
+    (x : List ℕ) (p : front x ≡ peel (front t)) (q : Bool) (e : q ≡ expr_eq (backing_field named backing) (front x)) where
+  step : q || goes_left (tag (front t)) here && bounded_by_backing (part 0 (front t)) (backing_field named backing) (wrapping_inside (tag (front t)) here)
+      ≡ bounded_by_backing (front amount) (backing_field named backing) wrapping
+  step = rw (e, p, ← bounded-step (front t) (backing_field named backing) here) i
 
-  pub bounding-equal : q ≡ true → true ≡ boundedByBacking (front amount) (backingField named backing) wrapping
+  pub bounding-equal : q ≡ true → true ≡ bounded_by_backing (front amount) (backing_field named backing) wrapping
   bounding-equal h = rw h at step
 
-  module _ (h : q ≡ false) (g : ℕ) (f : g ≡ tag (front t)) (v : Bool) (o : v ≡ goesLeft g here) where
-    pub bounding-stop : not v ≡ true → false ≡ boundedByBacking (front amount) (backingField named backing) wrapping
+  module _ (h : q ≡ false) (g : ℕ) (f : g ≡ tag (front t)) (v : Bool) (o : v ≡ goes_left g here) where
+    pub bounding-stop : not v ≡ true → false ≡ bounded_by_backing (front amount) (backing_field named backing) wrapping
     bounding-stop n = rw (h, ← f, ← o, not-true v n) at step
 
-    pub bounding-left : not v ≡ false → (w : Bool) → w ≡ wrappingInside g here → (u : List ℕ) → front u ≡ part 0 (front t) →
+    pub bounding-left : not v ≡ false → (w : Bool) → w ≡ wrapping_inside g here → (u : List ℕ) → front u ≡ part 0 (front t) →
         Bounding amount backing named wrapping u w
     bounding-left n w k u d = rw (d, k) (rw (h, ← f, ← o, not-false v n) at step)
 
 -- the rule goes only into a field that is there, since a missing one has the tag 0; what it goes on with is shorter
-module _ (t : List ℕ) (here : Bool) (g : ℕ) (f : g ≡ tag (front t)) (v : Bool) (o : v ≡ goesLeft g here) (n : not v ≡ false) where
+module _ (t : List ℕ) (here : Bool) (g : ℕ) (f : g ≡ tag (front t)) (v : Bool) (o : v ≡ goes_left g here) (n : not v ≡ false) where
   there : whole t ≡ true
-  unfolding goesLeft
+  unfolding goes_left
   there = go (whole t) refl
     where
       go : (w : Bool) → whole t ≡ w → whole t ≡ true

@@ -1,14 +1,14 @@
 -- The definition computed on examples: what a backing bounds, and what a hurried reading would take for bounded.
 use Rattle.std.proofs.Common.{ℕ, ◌≡◌, refl, Bool, true, false, List, [], ◌∷◌, ◌++◌}
 use Rattle.laws.specs.Lists.{any, all, filter}
-use Rattle.laws.specs.Texts.{sameBytes}
-use Rattle.tags.specs.Tag.{composite, isWrapper}
+use Rattle.laws.specs.Texts.{same_bytes}
+use Rattle.tags.specs.Tag.{composite, is_wrapper}
 use Rattle.tags.specs.Tag as tag
-use Rattle.fields.specs.Field.{fields, fieldsTo, front, nth}
+use Rattle.fields.specs.Field.{fields, fields_to, front, nth}
 use Rattle.fields.proofs.Writing.{write, word, name, integer, identifier}
-use Rattle.walking.specs.Walking.{peel, peelFirst}
-use Rattle.equality.specs.Equality.{strip, sameText, exprEq, partsEq}
-use Rattle.bounds.specs.Bounds.{goesLeft, wrappingInside, boundedByBacking, leftBounded}
+use Rattle.walking.specs.Walking.{peel, peel_first}
+use Rattle.equality.specs.Equality.{strip, same_text, expr_eq, parts_eq}
+use Rattle.bounds.specs.Bounds.{goes_left, wrapping_inside, bounded_by_backing, left_bounded}
 
 infixl 80 ◌plus◌ ◌minus◌ ◌times◌ ◌over◌ ◌modulo◌ ◌shifted◌
 infixl 70 ◌by◌
@@ -50,11 +50,11 @@ abbrev ◌shifted◌ : List ℕ → List ℕ → List ℕ
 e shifted f = write tag.Shr (e ++ f)
 
 -- bounded by n, with wrapping off and on
-abbrev byN : List ℕ → Bool
-byN amount = boundedByBacking (front amount) (front n) false
+abbrev by_n : List ℕ → Bool
+by_n amount = bounded_by_backing (front amount) (front n) false
 
-abbrev byNWrapping : List ℕ → Bool
-byNWrapping amount = boundedByBacking (front amount) (front n) true
+abbrev by_n_wrapping : List ℕ → Bool
+by_n_wrapping amount = bounded_by_backing (front amount) (front n) true
 
 -- bounded by n however wrapping is: it is n, wrappers aside, or goes left to n by Div, Rem and Shr, or by a Sub for which
 -- a Checked around it turned wrapping off
@@ -81,8 +81,8 @@ always =
     ∷ []
 
 -- only with wrapping off from the start: a Sub with no wrapper around it
-abbrev unlessWrapping : List (List ℕ)
-unlessWrapping =
+abbrev unless_wrapping : List (List ℕ)
+unless_wrapping =
     n minus one
     ∷ n minus n
     ∷ wrapping n minus one
@@ -130,20 +130,20 @@ never =
     ∷ (wrapping (checked []) ++ n)
     ∷ (([] minus []) ++ n)
     ∷ (([] over []) ++ n)
-    ∷ (write tag.Div (tag.Identifier ∷ 0 ∷ 2 ∷ 0x6E ∷ []) ++ n)
+    ∷ (write tag.Div (tag.Identifier ∷ 0 ∷ 2 ∷ 0x6_e ∷ []) ++ n)
     ∷ (tag.Div ∷ 0 ∷ 9 ∷ n)
     ∷ []
 
-always-bounded : all byN always ∷ all byNWrapping always ∷ [] ≡ true ∷ true ∷ []
-unfolding all filter sameBytes composite isWrapper fields fieldsTo nth peel peelFirst strip sameText exprEq partsEq goesLeft wrappingInside boundedByBacking leftBounded
+always-bounded : all by_n always ∷ all by_n_wrapping always ∷ [] ≡ true ∷ true ∷ []
+unfolding all filter same_bytes composite is_wrapper fields fields_to nth peel peel_first strip same_text expr_eq parts_eq goes_left wrapping_inside bounded_by_backing left_bounded
 always-bounded = refl
 
-bounded-unless-wrapping : all byN unlessWrapping ∷ any byNWrapping unlessWrapping ∷ [] ≡ true ∷ false ∷ []
-unfolding all any filter sameBytes composite isWrapper fields fieldsTo nth peel peelFirst strip sameText exprEq partsEq goesLeft wrappingInside boundedByBacking leftBounded
+bounded-unless-wrapping : all by_n unless_wrapping ∷ any by_n_wrapping unless_wrapping ∷ [] ≡ true ∷ false ∷ []
+unfolding all any filter same_bytes composite is_wrapper fields fields_to nth peel peel_first strip same_text expr_eq parts_eq goes_left wrapping_inside bounded_by_backing left_bounded
 bounded-unless-wrapping = refl
 
-never-bounded : any byN never ∷ any byNWrapping never ∷ [] ≡ false ∷ false ∷ []
-unfolding any filter sameBytes composite isWrapper fields fieldsTo nth peel peelFirst strip sameText exprEq partsEq goesLeft wrappingInside boundedByBacking leftBounded
+never-bounded : any by_n never ∷ any by_n_wrapping never ∷ [] ≡ false ∷ false ∷ []
+unfolding any filter same_bytes composite is_wrapper fields fields_to nth peel peel_first strip same_text expr_eq parts_eq goes_left wrapping_inside bounded_by_backing left_bounded
 never-bounded = refl
 
 -- Other backings
@@ -156,7 +156,7 @@ abbrev ◌by◌ : List ℕ → List ℕ → Pair
 a by b = record { amount = a; backing = b }
 
 abbrev bounded : Pair → Bool
-bounded p = boundedByBacking (front p.amount) (front p.backing) false
+bounded p = bounded_by_backing (front p.amount) (front p.backing) false
 
 -- equality is that of expressions: underscores do not count, and a wrapper around an amount that equals the backing does
 -- not either, whatever is inside
@@ -190,5 +190,5 @@ no =
     ∷ []
 
 others-bounded : all bounded yes ∷ any bounded no ∷ [] ≡ true ∷ false ∷ []
-unfolding all any filter sameBytes composite isWrapper fields fieldsTo nth peel peelFirst strip sameText exprEq partsEq goesLeft wrappingInside boundedByBacking leftBounded
+unfolding all any filter same_bytes composite is_wrapper fields fields_to nth peel peel_first strip same_text expr_eq parts_eq goes_left wrapping_inside bounded_by_backing left_bounded
 others-bounded = refl

@@ -2,9 +2,9 @@
 // Whether a backing bounds an amount. An expression is the part of the file that starts with it.
 ghost use Rattle.std.specs.Prelude.{◌≡◌};
 ghost use Rattle.fields.specs.Field.{front};
-ghost use Rattle.equality.specs.Equality.{exprEq};
-ghost use Rattle.bounds.specs.Bounds.{goesLeft, wrappingInside, boundedByBacking};
-ghost use Rattle.bounds.specs.Backing.{backingField};
+ghost use Rattle.equality.specs.Equality.{expr_eq};
+ghost use Rattle.bounds.specs.Bounds.{goes_left, wrapping_inside, bounded_by_backing};
+ghost use Rattle.bounds.specs.Backing.{backing_field};
 
 use equality::{expr_eq, is_amount_of};
 use fields::front::{part_of, tag_of};
@@ -13,7 +13,7 @@ use walking::peel::peel;
 
 // Whether the rule goes into the first part of a field with that tag.
 fn goes_left(tag: u8, wrapping: bool) -> bool
-    ensures { result ≡ goesLeft tag wrapping }
+    ensures { result ≡ goes_left tag wrapping }
 {
     (tag == CHECKED)
         | (tag == WRAPPING)
@@ -25,7 +25,7 @@ fn goes_left(tag: u8, wrapping: bool) -> bool
 
 // Whether wrapping is on there.
 fn wrapping_inside(tag: u8, wrapping: bool) -> bool
-    ensures { result ≡ wrappingInside tag wrapping }
+    ensures { result ≡ wrapping_inside tag wrapping }
 {
     (tag == WRAPPING) | (tag != CHECKED) & wrapping
 }
@@ -33,7 +33,7 @@ fn wrapping_inside(tag: u8, wrapping: bool) -> bool
 // Whether the backing equals the expression at the front of s. The backing is an expression of the file, or the name of a
 // parameter whose `p.amount` it is.
 pub fn backing_eq(backing: &[u8], of_parameter: bool, s: &[u8]) -> bool
-    ensures { result ≡ exprEq (backingField of_parameter backing.now) (front s.now) }
+    ensures { result ≡ expr_eq (backing_field of_parameter backing.now) (front s.now) }
 {
     if of_parameter {
         return is_amount_of(backing, s);
@@ -44,7 +44,7 @@ pub fn backing_eq(backing: &[u8], of_parameter: bool, s: &[u8]) -> bool
 // Whether such a backing bounds the amount. The rule goes into one part at most, so it is a loop. The amount is peeled for
 // the comparison only: its wrappers turn wrapping on and off.
 pub fn bounded_by(amount: &[u8], backing: &[u8], of_parameter: bool, wrapping: bool) -> bool
-    ensures { result ≡ boundedByBacking (front amount.now) (backingField of_parameter backing.now) wrapping }
+    ensures { result ≡ bounded_by_backing (front amount.now) (backing_field of_parameter backing.now) wrapping }
 {
     let mut part = amount;
     let mut wrapping_here = wrapping;
@@ -65,7 +65,7 @@ pub fn bounded_by(amount: &[u8], backing: &[u8], of_parameter: bool, wrapping: b
 
 // Whether a backing that stands in the file bounds the amount.
 pub fn bounded_by_backing(amount: &[u8], backing: &[u8], wrapping: bool) -> bool
-    ensures { result ≡ boundedByBacking (front amount.now) (front backing.now) wrapping }
+    ensures { result ≡ bounded_by_backing (front amount.now) (front backing.now) wrapping }
 {
     bounded_by(amount, backing, false, wrapping)
 }

@@ -6,11 +6,11 @@ use Rattle.laws.specs.Lists.{any}
 use Rattle.fields.specs.Field.{Field, Fields, fields}
 use Rattle.walking.specs.Walking.{payouts}
 use Rattle.tokens.specs.Tokens.{differ}
-use Rattle.guards.specs.Payouts.{payoutToken}
-use Rattle.matching.specs.Matching.{Cover, backings, equalCover, start}
+use Rattle.guards.specs.Payouts.{payout_token}
+use Rattle.matching.specs.Matching.{Cover, backings, equal_cover, start}
 use Rattle.matching.specs.Matching.Cover.{reserve}
-use Rattle.claim.specs.Verdict.{Verdict, accepted, matching, entry_at, entryVerdict, verdict, kind, index, written}
-use Rattle.claim.specs.Claim.{kind_at, index_at, named_by, notKnownToDiffer, backs, Accepted, EachPayout, EachEqualsSome, earlier, jth, HasJth, NamesJth, payoutAt, Backed, Demand3, Claim}
+use Rattle.claim.specs.Verdict.{Verdict, accepted, matching, entry_at, entry_verdict, verdict, kind, index, written}
+use Rattle.claim.specs.Claim.{kind_at, index_at, named_by, not_known_to_differ, backs, Accepted, EachPayout, EachEqualsSome, earlier, jth, HasJth, NamesJth, payout_at, Backed, Demand3, Claim}
 use Rattle.claim.proofs.Passing.{Passed, a-pass, passed-count}
 use Rattle.claim.proofs.Sheets.{kind-at, index-at, equal-kind, equal-index}
 use Rattle.claim.proofs.Backs.{passed-backs}
@@ -44,7 +44,7 @@ module _ (model : Fields) (entry : Field) (lent : List ℕ) where
       unfolding written
       index-left = rw e (index-at cs (drop (3 * length cs) lent) i (reserve 0) (omega (arith, counts)))
 
-      backs-left : backs model entry (payoutAt model entry i) (kind_at left i) (index_at left i) ≡ true
+      backs-left : backs model entry (payout_at model entry i) (kind_at left i) (index_at left i) ≡ true
       unfolding start
       backs-left = rw (kind-left, index-left) (passed-backs model entry (start model entry) (payouts entry) cs (λ f k. k) passed i (reserve 0) h)
 
@@ -61,20 +61,20 @@ module _ (model : Fields) (entry : Field) (lent : List ℕ) where
     all-met i h = rw (a i h)
 
     jth-left : (cs : List Cover) → Matched cs → (i : ℕ) → i < length (payouts entry) →
-        (h : Has (backings model entry) (payouts entry) i) × (get_or cs i (reserve 0) ≡ equalCover h.0)
+        (h : Has (backings model entry) (payouts entry) i) × (get_or cs i (reserve 0) ≡ equal_cover h.0)
     unfolding start
     jth-left cs e i h = passed-jth model entry (start model entry) (payouts entry) cs (passed cs e) all-met i (reserve 0) h
 
     -- the other way round: where each payout has its j-th, the pass comes to its end
     accepted-left : EachPayout model entry (HasJth model entry) → Accepted (matching model entry)
-    unfolding HasJth jth earlier start backings matching EachPayout Accepted notKnownToDiffer
+    unfolding HasJth jth earlier start backings matching EachPayout Accepted not_known_to_differ
     accepted-left has =
         jth-passes model entry (start model entry) 0 (payouts entry) all-met
-        (λ i h. let (b, j, k) = has i h in (b, j, not-true (differ b.token (payoutToken (payoutAt model entry i))) k))
+        (λ i h. let (b, j, k) = has i h in (b, j, not-true (differ b.token (payout_token (payout_at model entry i))) k))
 
     -- the j-th, as the claim says it
     has_left : (i : ℕ) → Has (backings model entry) (payouts entry) i → HasJth model entry i
-    unfolding HasJth jth earlier backings notKnownToDiffer
+    unfolding HasJth jth earlier backings not_known_to_differ
     has_left i (b, j, k) = (b, j, ap not k)
 
     covers-left : (cs : List Cover) → Matched cs → (i : ℕ) → i < length (payouts entry) → NamesJth model entry left i
@@ -90,15 +90,15 @@ module _ (model : Fields) (entry : Field) (lent : List ℕ) where
     sound = λ (cs, e) i h. backs-left cs e i h;
     apart = λ (cs, e) i h j k. apart-left cs e i j h k;
     exact = λ a. (λ (cs, e) i h. has_left a i (jth-left a cs e i h).0, accepted-left a);
-    exactCovers = λ a (cs, e) i h. covers-left a cs e i h;
+    exact_covers = λ a (cs, e) i h. covers-left a cs e i h;
     matched = refl;
     covers = refl;
   }
 
 -- for entry n of any file, and any covers lent
 pub demand-3 : (file lent : List ℕ) (n : ℕ) → Demand3 file n lent (verdict file n (length lent)) (written (verdict file n (length lent)) lent)
-unfolding Demand3 verdict entryVerdict
-demand-3 file lent n f e = rw (verdict, f, entryVerdict, e) (backed (fields file) (entry_at (fields file) n).this lent)
+unfolding Demand3 verdict entry_verdict
+demand-3 file lent n f e = rw (verdict, f, entry_verdict, e) (backed (fields file) (entry_at (fields file) n).this lent)
 
 -- for an answer and covers left that are these
 pub demand-3-of : (file lent : List ℕ) (n : ℕ) (answer : Verdict) (left : List ℕ) → answer ≡ verdict file n (length lent) →

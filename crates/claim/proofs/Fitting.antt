@@ -6,61 +6,61 @@ use Rattle.laws.proofs.Lists.{filter-few}
 use Rattle.laws.proofs.Numbered.{numbered-length}
 use Rattle.laws.proofs.Truths.{and_right, either}
 use Rattle.tags.specs.Tag.{State, between}
-use Rattle.fields.specs.Field.{Field, Fields, fields, tag, fieldsTo, row, fieldsFrom, whole, after}
-use Rattle.model.specs.Model.{stateNames, entries}
-use Rattle.questions.specs.Questions.{Asked, passes, fails, ask, ◌and_then◌, askForm, askFile, at_most}
-use Rattle.walking.specs.Walking.{debits, assetParams, isPayout, bodyExprs}
-use Rattle.matching.specs.Matching.{Cover, Marks, debitBackings, parameterBackings, answer}
+use Rattle.fields.specs.Field.{Field, Fields, fields, tag, fields_to, row, fields_from, whole, after}
+use Rattle.model.specs.Model.{state_names, entries}
+use Rattle.questions.specs.Questions.{Asked, passes, fails, ask, ◌and_then◌, ask_form, ask_file, at_most}
+use Rattle.walking.specs.Walking.{debits, asset_params, is_payout, body_exprs}
+use Rattle.matching.specs.Matching.{Cover, Marks, debit_backings, parameter_backings, answer}
 use Rattle.matching.specs.Matching.Answer.{cover}
 use Rattle.matching.proofs.Ways.{a-step}
-use Rattle.claim.specs.Verdict.{backingCount, entry_at, askEntry, kind, index}
-use Rattle.claim.specs.Claim.{passesAt, backsEqual, backsBounding, backsReserve, backs}
+use Rattle.claim.specs.Verdict.{backing_count, entry_at, ask_entry, kind, index}
+use Rattle.claim.specs.Claim.{passes_at, backs_equal, backs_bounding, backs_reserve, backs}
 use Rattle.claim.proofs.Numbered.{at-below}
 use Rattle.claim.proofs.Backs.{Within, step-backs}
 
 -- n bytes have at most n fields in a row
-few-fields : (n : ℕ) (s : List ℕ) → length (row (fieldsTo n s)) ≤ n
-unfolding row fieldsTo
+few-fields : (n : ℕ) (s : List ℕ) → length (row (fields_to n s)) ≤ n
+unfolding row fields_to
 few-fields zero s = omega arith
 few-fields (suc n) s = go (whole s) refl (few-fields n)
   where
-    go : (k : Bool) → whole s ≡ k → ((t : List ℕ) → length (row (fieldsTo n t)) ≤ n) → length (row (fieldsTo (suc n) s)) ≤ suc n
+    go : (k : Bool) → whole s ≡ k → ((t : List ℕ) → length (row (fields_to n t)) ≤ n) → length (row (fields_to (suc n) s)) ≤ suc n
     go true h r = rw (length, row, h) (suc-le-suc (r (after s)))
     go false h r = rw (length, row, h) (omega arith)
 
-pub few-states : (file : List ℕ) → length (stateNames (fields file)) ≤ length file
-unfolding stateNames fieldsFrom fields
+pub few-states : (file : List ℕ) → length (state_names (fields file)) ≤ length file
+unfolding state_names fields_from fields
 few-states file =
     simp length-map (le_trans (filter-few (λ f. between State State (tag f)) (row (fields file))) (few-fields (length file) file))
 
 module _ (model : Fields) (entry : Field) where
   -- as many backings as debits, and as parameters
-  debits-length : length (debitBackings model entry) ≡ length (debits entry)
-  unfolding debitBackings
+  debits-length : length (debit_backings model entry) ≡ length (debits entry)
+  unfolding debit_backings
   debits-length = simp length-map (numbered-length 0 (debits entry))
 
-  parameters-length : length (parameterBackings entry) ≡ length (assetParams entry)
-  unfolding parameterBackings
-  parameters-length = simp length-map (numbered-length 0 (assetParams entry))
+  parameters-length : length (parameter_backings entry) ≡ length (asset_params entry)
+  unfolding parameter_backings
+  parameters-length = simp length-map (numbered-length 0 (asset_params entry))
 
   -- a cover that backs a payout has an index below the number of backings and state fields
-  pub backs-below : (p : Field) (k i : ℕ) → backs model entry p k i ≡ true → i < backingCount entry + length (stateNames model)
-  unfolding backs backingCount
+  pub backs-below : (p : Field) (k i : ℕ) → backs model entry p k i ≡ true → i < backing_count entry + length (state_names model)
+  unfolding backs backing_count
   backs-below p k i e =
-      let a : Bool = passesAt (backsEqual p) (debitBackings model entry) i in
-      let b : Bool = passesAt (backsEqual p) (parameterBackings entry) i in
-      let c : Bool = passesAt (backsBounding p) (debitBackings model entry) i in
-      let d : Bool = passesAt (backsBounding p) (parameterBackings entry) i in
-      let r : Bool = passesAt (backsReserve model entry p) (stateNames model) i in
+      let a : Bool = passes_at (backs_equal p) (debit_backings model entry) i in
+      let b : Bool = passes_at (backs_equal p) (parameter_backings entry) i in
+      let c : Bool = passes_at (backs_bounding p) (debit_backings model entry) i in
+      let d : Bool = passes_at (backs_bounding p) (parameter_backings entry) i in
+      let r : Bool = passes_at (backs_reserve model entry p) (state_names model) i in
       either (eqb k 1 && a || eqb k 2 && b || eqb k 3 && c || eqb k 4 && d) (eqb k 5 && r)
       (either (eqb k 1 && a || eqb k 2 && b || eqb k 3 && c) (eqb k 4 && d)
       (either (eqb k 1 && a || eqb k 2 && b) (eqb k 3 && c)
       (either (eqb k 1 && a) (eqb k 2 && b)
-      (λ h. omega (arith, at-below (backsEqual p) _ i (and_right (eqb k 1) a h), debits-length))
-      (λ h. omega (arith, at-below (backsEqual p) _ i (and_right (eqb k 2) b h), parameters-length)))
-      (λ h. omega (arith, at-below (backsBounding p) _ i (and_right (eqb k 3) c h), debits-length)))
-      (λ h. omega (arith, at-below (backsBounding p) _ i (and_right (eqb k 4) d h), parameters-length)))
-      (λ h. omega (arith, at-below (backsReserve model entry p) _ i (and_right (eqb k 5) r h))) e
+      (λ h. omega (arith, at-below (backs_equal p) _ i (and_right (eqb k 1) a h), debits-length))
+      (λ h. omega (arith, at-below (backs_equal p) _ i (and_right (eqb k 2) b h), parameters-length)))
+      (λ h. omega (arith, at-below (backs_bounding p) _ i (and_right (eqb k 3) c h), debits-length)))
+      (λ h. omega (arith, at-below (backs_bounding p) _ i (and_right (eqb k 4) d h), parameters-length)))
+      (λ h. omega (arith, at-below (backs_reserve model entry p) _ i (and_right (eqb k 5) r h))) e
 
 -- of a run of questions that all pass, each passes
 pub earlier-asked : (a b : Asked) → a and_then b ≡ passes → a ≡ passes
@@ -75,18 +75,18 @@ pub asked : (a : Bool) (n p : ℕ) → ask a n p ≡ passes → a ≡ true
 asked true n p e = refl
 asked false n p e = cc
 
-module _ (file : List ℕ) (f : askFile file ≡ passes) where
+module _ (file : List ℕ) (f : ask_file file ≡ passes) where
   pub short-file : length file ≤ 32768
-  unfolding askFile askForm
-  short-file = leb-true (length file) 32768 (asked (leb (length file) 32768) 1 0 (earlier-asked _ _ (earlier-asked (askForm file) _ f)))
+  unfolding ask_file ask_form
+  short-file = leb-true (length file) 32768 (asked (leb (length file) 32768) 1 0 (earlier-asked _ _ (earlier-asked (ask_form file) _ f)))
 
-  module _ (n lent : ℕ) (e : askEntry (fields file) n lent ≡ passes) where
-    few-backings : backingCount (entry_at (fields file) n).this ≤ 64
-    unfolding askEntry
+  module _ (n lent : ℕ) (e : ask_entry (fields file) n lent ≡ passes) where
+    few-backings : backing_count (entry_at (fields file) n).this ≤ 64
+    unfolding ask_entry
     few-backings =
         let entry = entry_at (fields file) n in
-        leb-true (backingCount entry.this) 64 (asked (leb (backingCount entry.this) 64) 11 entry.place (earlier-asked _ _
-        (later-asked (at_most 64 10 (filter (λ p. isPayout p.this) (bodyExprs entry))) _
+        leb-true (backing_count entry.this) 64 (asked (leb (backing_count entry.this) 64) 11 entry.place (earlier-asked _ _
+        (later-asked (at_most 64 10 (filter (λ p. is_payout p.this) (body_exprs entry))) _
         (later-asked (ask (ltb n (length (entries (fields file)))) 9 0) _ e))))
 
     -- past every check

@@ -1,33 +1,33 @@
 -- Entries written by hand, and what the definitions say of them.
 use Rattle.std.proofs.Common.{ℕ, List, [], ◌++◌, map, flat_map, length}
 use Prim.Native.String.{String}
-use Rattle.laws.specs.Lists.{any, all, filter, find, removeFirst, position, numbered}
-use Rattle.laws.specs.Texts.{sameBytes, known}
+use Rattle.laws.specs.Lists.{any, all, filter, find, remove_first, position, numbered}
+use Rattle.laws.specs.Texts.{same_bytes, known}
 use Rattle.tags.specs.Tag.{State, Entry, Parameter, Guard, AddTo, SubtractFrom, ExpressionStatement, Caller, InAsset, Member, Call, Eq, Ge, Sub, Mul, Div}
-use Rattle.tags.specs.Tag.{isItem, isClause, isStatement, isAssign, isExpression, isText, isWrapper, composite}
-use Rattle.fields.specs.Field.{fields, fieldsTo, nth, row, fieldsFrom, size, sizes, placed, placedFrom}
-use Rattle.fields.proofs.Writing.{write, name, typeName, integer, identifier}
-use Rattle.model.specs.Model.{states, stateNames, genesis, entries, params, body}
-use Rattle.grammar.specs.Grammar.{inClass, grammar, slotsIn, advance, complete}
-use Rattle.questions.specs.Questions.{contentAllowed, askField, askFields, askNames, at_most, askForm, askFile}
-use Rattle.walking.specs.Walking.{peel, peelFirst, walk, walkParts, stmtExprs, bodyExprs, exprs, guards, ident, method, receiver}
-use Rattle.walking.specs.Walking.{isDebit, isPayout, assetAmountBacker, isAssetParameter, assetParams, debits, payouts}
-use Rattle.equality.specs.Equality.{strip, sameText, exprEq, partsEq}
-use Rattle.conditions.specs.Conditions.{splitAnd, splitEach, splitFirst, negated, negatedEach, negatedFirst, conditionsOf, requiredConditions, opposite, operator}
-use Rattle.bounds.specs.Bounds.{goesLeft, wrappingInside, boundedByBacking, leftBounded}
-use Rattle.tokens.specs.Tokens.{single, differ, besideInAsset, tokenNamed, tokensNamed, admittedInflowToken, isInflow, isCredit, isFunding}
-use Rattle.fundings.specs.FundingTokens.{funds, ledgerFundingTokens, fundingToken}
-use Rattle.raises.specs.Raises.{assigns, value, setsFrom, is_zero, defaults, genesisValues, startsAtZero, raise, raises}
-use Rattle.reserve_tokens.specs.ReserveTokens.{credited, guardToken, guardTokens, only, debitToken, raiseToken, raiseTokens, reserveToken}
-use Rattle.guards.specs.Guards.{containsInflow, guardedField, guardedAmount, guardedBy, containsWrapping, loweredBy, lowers}
-use Rattle.guards.specs.Payouts.{payoutToken, payoutAmount}
-use Rattle.reserves.specs.Reserves.{reserveCovers, reserveBoundingPayout}
-use Rattle.matching.specs.Matching.{debitBackings, parameterBackings, backings, equals, bounds, takeBacking, takeReserve, byReserve, byBounding, notTaken, byEqual, answer, start}
-use Rattle.reserves.specs.Candidates.{stateIndex}
-use Rattle.reserves.specs.Covers.{reserveOf}
+use Rattle.tags.specs.Tag.{is_item, is_clause, is_statement, is_assign, is_expression, is_text, is_wrapper, composite}
+use Rattle.fields.specs.Field.{fields, fields_to, nth, row, fields_from, size, sizes, placed, placed_from}
+use Rattle.fields.proofs.Writing.{write, name, type_name, integer, identifier}
+use Rattle.model.specs.Model.{states, state_names, genesis, entries, params, body}
+use Rattle.grammar.specs.Grammar.{in_class, grammar, slots_in, advance, complete}
+use Rattle.questions.specs.Questions.{content_allowed, ask_field, ask_fields, ask_names, at_most, ask_form, ask_file}
+use Rattle.walking.specs.Walking.{peel, peel_first, walk, walk_parts, stmt_exprs, body_exprs, exprs, guards, ident, method, receiver}
+use Rattle.walking.specs.Walking.{is_debit, is_payout, asset_amount_backer, is_asset_parameter, asset_params, debits, payouts}
+use Rattle.equality.specs.Equality.{strip, same_text, expr_eq, parts_eq}
+use Rattle.conditions.specs.Conditions.{split_and, split_each, split_first, negated, negated_each, negated_first, conditions_of, required_conditions, opposite, operator}
+use Rattle.bounds.specs.Bounds.{goes_left, wrapping_inside, bounded_by_backing, left_bounded}
+use Rattle.tokens.specs.Tokens.{single, differ, beside_in_asset, token_named, tokens_named, admitted_inflow_token, is_inflow, is_credit, is_funding}
+use Rattle.fundings.specs.FundingTokens.{funds, ledger_funding_tokens, funding_token}
+use Rattle.raises.specs.Raises.{assigns, value, sets_from, is_zero, defaults, genesis_values, starts_at_zero, raise, raises}
+use Rattle.reserve_tokens.specs.ReserveTokens.{credited, guard_token, guard_tokens, only, debit_token, raise_token, raise_tokens, reserve_token}
+use Rattle.guards.specs.Guards.{contains_inflow, guarded_field, guarded_amount, guarded_by, contains_wrapping, lowered_by, lowers}
+use Rattle.guards.specs.Payouts.{payout_token, payout_amount}
+use Rattle.reserves.specs.Reserves.{reserve_covers, reserve_bounding_payout}
+use Rattle.matching.specs.Matching.{debit_backings, parameter_backings, backings, equals, bounds, take_backing, take_reserve, by_reserve, by_bounding, not_taken, by_equal, answer, start}
+use Rattle.reserves.specs.Candidates.{state_index}
+use Rattle.reserves.specs.Covers.{reserve_of}
 use Rattle.reserves.specs.declared.covering.Reserve.{Reserve}
-use Rattle.claim.specs.Verdict.{Verdict, matchFrom, matching, backingCount, entry_at, askEntry, entryVerdict, verdict, kind, index, sheet, written, spare}
-use Rattle.claim.specs.Reserve.{payoutReserve}
+use Rattle.claim.specs.Verdict.{Verdict, match_from, matching, backing_count, entry_at, ask_entry, entry_verdict, verdict, kind, index, sheet, written, spare}
+use Rattle.claim.specs.Reserve.{payout_reserve}
 
 -- Rows
 
@@ -44,18 +44,18 @@ about f n v = record { file = f; number = n; lent = 192; expected = v }
 
 -- what the definitions say of each row
 unfoldable pub found : List Row → List Verdict
-unfolding any all filter find removeFirst position numbered sameBytes known isItem isClause isStatement isAssign isExpression
-    isText isWrapper composite fields fieldsTo nth row fieldsFrom size sizes placed placedFrom states stateNames genesis entries
-    params body inClass grammar slotsIn advance complete contentAllowed askField askFields askNames at_most askForm askFile peel
-    peelFirst walk walkParts stmtExprs bodyExprs exprs guards ident method receiver isDebit isPayout assetAmountBacker
-    isAssetParameter assetParams debits payouts strip sameText exprEq partsEq splitAnd splitEach splitFirst negated negatedEach
-    negatedFirst conditionsOf requiredConditions opposite operator goesLeft wrappingInside boundedByBacking leftBounded single
-    differ besideInAsset tokenNamed tokensNamed admittedInflowToken isInflow isCredit isFunding funds ledgerFundingTokens
-    fundingToken containsInflow guardedField guardedAmount guardedBy assigns value containsWrapping setsFrom loweredBy lowers
-    is_zero defaults genesisValues startsAtZero raise raises credited guardToken guardTokens only debitToken raiseToken raiseTokens
-    reserveToken reserveCovers reserveBoundingPayout debitBackings parameterBackings backings payoutToken payoutAmount equals
-    bounds takeBacking takeReserve byReserve byBounding notTaken byEqual answer start matchFrom matching backingCount askEntry
-    entryVerdict verdict flat_map
+unfolding any all filter find remove_first position numbered same_bytes known is_item is_clause is_statement is_assign is_expression
+    is_text is_wrapper composite fields fields_to nth row fields_from size sizes placed placed_from states state_names genesis entries
+    params body in_class grammar slots_in advance complete content_allowed ask_field ask_fields ask_names at_most ask_form ask_file peel
+    peel_first walk walk_parts stmt_exprs body_exprs exprs guards ident method receiver is_debit is_payout asset_amount_backer
+    is_asset_parameter asset_params debits payouts strip same_text expr_eq parts_eq split_and split_each split_first negated negated_each
+    negated_first conditions_of required_conditions opposite operator goes_left wrapping_inside bounded_by_backing left_bounded single
+    differ beside_in_asset token_named tokens_named admitted_inflow_token is_inflow is_credit is_funding funds ledger_funding_tokens
+    funding_token contains_inflow guarded_field guarded_amount guarded_by assigns value contains_wrapping sets_from lowered_by lowers
+    is_zero defaults genesis_values starts_at_zero raise raises credited guard_token guard_tokens only debit_token raise_token raise_tokens
+    reserve_token reserve_covers reserve_bounding_payout debit_backings parameter_backings backings payout_token payout_amount equals
+    bounds take_backing take_reserve by_reserve by_bounding not_taken by_equal answer start match_from matching backing_count ask_entry
+    entry_verdict verdict flat_map
 found rs = map (λ r. verdict r.file r.number r.lent) rs
 
 -- what each row states
@@ -73,9 +73,9 @@ unfolding found spare
 spare_of file n = spare (entry_at (fields file) n).this
 
 -- the state field that covers a payout by itself
-unfoldable pub reserveIn : List ℕ → ℕ → ℕ → Reserve
-unfolding found payoutReserve reserveOf stateIndex
-reserveIn file n k = reserveOf (fields file) (payoutReserve (fields file) (entry_at (fields file) n).this k)
+unfoldable pub reserve_in : List ℕ → ℕ → ℕ → Reserve
+unfolding found payout_reserve reserve_of state_index
+reserve_in file n k = reserve_of (fields file) (payout_reserve (fields file) (entry_at (fields file) n).this k)
 
 -- Files
 
@@ -89,10 +89,10 @@ one c v = about (entry c) 0 v
 
 -- a state field with a default, or none
 abbrev pub state : String → List ℕ → List ℕ
-state r default = write State (name r ++ typeName "u64" ++ default)
+state r default = write State (name r ++ type_name "u64" ++ default)
 
 abbrev pub parameter : String → String → List ℕ
-parameter p t = write Parameter (name p ++ typeName t)
+parameter p t = write Parameter (name p ++ type_name t)
 
 -- an asset parameter, and the plain one n
 abbrev pub asset : String → List ℕ
@@ -111,12 +111,12 @@ statement e = write ExpressionStatement e
 abbrev pub caller : List ℕ
 caller = write Caller []
 
-abbrev pub inAsset : List ℕ
-inAsset = write InAsset []
+abbrev pub in_asset : List ℕ
+in_asset = write InAsset []
 
 -- in-asset == t
 abbrev pub holds : String → List ℕ
-holds t = write Eq (inAsset ++ identifier t)
+holds t = write Eq (in_asset ++ identifier t)
 
 -- n
 abbrev pub n : List ℕ

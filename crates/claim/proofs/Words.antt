@@ -5,15 +5,15 @@ use Rattle.tags.specs.Tag.{Checked}
 use Rattle.fields.specs.Field.{front, fields}
 use Rattle.fields.proofs.Writing.{write, integer}
 use Rattle.claim.specs.Verdict.{entry_at}
-use Rattle.claim.specs.Claim.{named_by, equalKind, passesAt, notKnownToDiffer, backsEqual, backsBounding, backsReserve, backs, payoutAt, earlier, jth}
+use Rattle.claim.specs.Claim.{named_by, equal_kind, passes_at, not_known_to_differ, backs_equal, backs_bounding, backs_reserve, backs, payout_at, earlier, jth}
 use Rattle.claim.proofs.Samples.{found, entry, state, asset, plain, guard, holds, n, amount, half, debit, send, raising, drawing}
 
 -- whether the covers of a kind and an index back payout i of entry e
 unfoldable backing : List ℕ → (e i : ℕ) → List (ℕ × ℕ) → List Bool
-unfolding found passesAt notKnownToDiffer backsEqual backsBounding backsReserve backs
+unfolding found passes_at not_known_to_differ backs_equal backs_bounding backs_reserve backs
 backing file e i covers =
     let this = (entry_at (fields file) e).this in
-    map (λ (k, x). backs (fields file) this (payoutAt (fields file) this i) k x) covers
+    map (λ (k, x). backs (fields file) this (payout_at (fields file) this i) k x) covers
 
 -- two parameters, a debit of n; a.amount is sent, then n / 2
 abbrev mixed : List ℕ
@@ -59,7 +59,7 @@ counting file payouts =
     let this = front file in
     map (λ i.
     let before = earlier (fields file) this i in
-    elim (jth (fields file) this i) [ none ↦ (before, 0, 0) | some b ↦ (before, equalKind b.source, b.index) ])
+    elim (jth (fields file) this i) [ none ↦ (before, 0, 0) | some b ↦ (before, equal_kind b.source, b.index) ])
     payouts
 
 -- n twice debited, once wrapped, with another debit between, and a.amount debited: debits first, each amount by itself

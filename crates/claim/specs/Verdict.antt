@@ -3,11 +3,11 @@ use Rattle.std.specs.Prelude.{ℕ, suc, ◌+◌, ◌-◌, ◌*◌, ◌/◌, ◌%
 use Rattle.laws.specs.Lists.{filter}
 use Rattle.fields.specs.Field.{Field, Fields, Placed, fields, nothing}
 use Rattle.model.specs.Model.{entries}
-use Rattle.questions.specs.Questions.{Asked, passes, fails, ask, ◌and_then◌, at_most, askFile}
-use Rattle.walking.specs.Walking.{bodyExprs, isPayout, debits, assetParams, payouts}
+use Rattle.questions.specs.Questions.{Asked, passes, fails, ask, ◌and_then◌, at_most, ask_file}
+use Rattle.walking.specs.Walking.{body_exprs, is_payout, debits, asset_params, payouts}
 use Rattle.matching.specs.Matching.{Cover, Reason, Marks, cover, rejection, answer, start}
-use Rattle.matching.specs.Matching.Cover.{equalDebit, equalParameter, boundingDebit, boundingParameter, reserve}
-use Rattle.matching.specs.Matching.Reason.{splitWithoutAmount, conflictAtEqual, amountTaken, conflictAtBounding, noReserve, reserveUsed}
+use Rattle.matching.specs.Matching.Cover.{equal_debit, equal_parameter, bounding_debit, bounding_parameter, reserve}
+use Rattle.matching.specs.Matching.Reason.{split_without_amount, conflict_at_equal, amount_taken, conflict_at_bounding, no_reserve, reserve_used}
 
 -- a "no" to a question; a payout that nothing covers, and why; or a cover for each payout
 pub data Verdict : Type 0 where
@@ -16,45 +16,45 @@ pub data Verdict : Type 0 where
   accepted : List Cover → Verdict
 
 -- a cover in front of those of the later payouts
-abbrev pub withCover : Cover → Verdict → Verdict
-withCover c (refused n p) = refused n p
-withCover c (rejected n r) = rejected n r
-withCover c (accepted cs) = accepted (c ∷ cs)
+abbrev pub with_cover : Cover → Verdict → Verdict
+with_cover c (refused n p) = refused n p
+with_cover c (rejected n r) = rejected n r
+with_cover c (accepted cs) = accepted (c ∷ cs)
 
 -- the payouts in order, counted from n
-unfoldable pub matchFrom : Fields → Field → Marks → ℕ → List Field → Verdict
-matchFrom model entry s n [] = accepted []
-matchFrom model entry s n (p ∷ ps) =
+unfoldable pub match_from : Fields → Field → Marks → ℕ → List Field → Verdict
+match_from model entry s n [] = accepted []
+match_from model entry s n (p ∷ ps) =
     elim (answer model entry s p) [
       | rejection r ↦ rejected n r
-      | cover c after ↦ withCover c (matchFrom model entry after (suc n) ps)
+      | cover c after ↦ with_cover c (match_from model entry after (suc n) ps)
     ]
 
 -- all payouts of an entry
 unfoldable pub matching : Fields → Field → Verdict
-matching model entry = matchFrom model entry (start model entry) 0 (payouts entry)
+matching model entry = match_from model entry (start model entry) 0 (payouts entry)
 
 -- how many backings the entry has
-unfoldable pub backingCount : Field → ℕ
-backingCount entry = length (debits entry) + length (assetParams entry)
+unfoldable pub backing_count : Field → ℕ
+backing_count entry = length (debits entry) + length (asset_params entry)
 
 -- the entry with a number, counted from 0
 abbrev pub entry_at : Fields → ℕ → Placed
 entry_at model n = get_or (entries model) n (record { place = 0; this = nothing })
 
 -- questions 9 to 12, about the entry asked about and the length of the lent covers
-unfoldable pub askEntry : Fields → ℕ → ℕ → Asked
-askEntry model n lent =
+unfoldable pub ask_entry : Fields → ℕ → ℕ → Asked
+ask_entry model n lent =
     let e = entry_at model n in
     ask (ltb n (length (entries model))) 9 0
-    and_then at_most 64 10 (filter (λ p. isPayout p.this) (bodyExprs e))
-    and_then ask (leb (backingCount e.this) 64) 11 e.place
+    and_then at_most 64 10 (filter (λ p. is_payout p.this) (body_exprs e))
+    and_then ask (leb (backing_count e.this) 64) 11 e.place
     and_then ask (leb (3 * length (payouts e.this)) lent) 12 0
 
 -- the verdict on entry n of a file that passes questions 1 to 8
-unfoldable pub entryVerdict : Fields → ℕ → ℕ → Verdict
-entryVerdict model n lent =
-    elim (askEntry model n lent) [
+unfoldable pub entry_verdict : Fields → ℕ → ℕ → Verdict
+entry_verdict model n lent =
+    elim (ask_entry model n lent) [
       | fails k p ↦ refused k p
       | passes ↦ matching model (entry_at model n).this
     ]
@@ -62,35 +62,35 @@ entryVerdict model n lent =
 -- the verdict on entry n of any file
 unfoldable pub verdict : List ℕ → ℕ → ℕ → Verdict
 verdict file n lent =
-    elim (askFile file) [
+    elim (ask_file file) [
       | fails k p ↦ refused k p
-      | passes ↦ entryVerdict (fields file) n lent
+      | passes ↦ entry_verdict (fields file) n lent
     ]
 
 -- the kinds of covers, in the paper's numbers
 unfoldable pub kind : Cover → ℕ
-kind (equalDebit i) = 1
-kind (equalParameter i) = 2
-kind (boundingDebit i) = 3
-kind (boundingParameter i) = 4
+kind (equal_debit i) = 1
+kind (equal_parameter i) = 2
+kind (bounding_debit i) = 3
+kind (bounding_parameter i) = 4
 kind (reserve i) = 5
 
 -- the index of a cover
 unfoldable pub index : Cover → ℕ
-index (equalDebit i) = i
-index (equalParameter i) = i
-index (boundingDebit i) = i
-index (boundingParameter i) = i
+index (equal_debit i) = i
+index (equal_parameter i) = i
+index (bounding_debit i) = i
+index (bounding_parameter i) = i
 index (reserve i) = i
 
 -- the reasons of a rejection, in the paper's numbers
 unfoldable pub reason : Reason → ℕ
-reason splitWithoutAmount = 1
-reason conflictAtEqual = 2
-reason amountTaken = 3
-reason conflictAtBounding = 4
-reason noReserve = 5
-reason reserveUsed = 6
+reason split_without_amount = 1
+reason conflict_at_equal = 2
+reason amount_taken = 3
+reason conflict_at_bounding = 4
+reason no_reserve = 5
+reason reserve_used = 6
 
 -- three bytes a payout: the kind, and the index, most significant byte first
 unfoldable pub sheet : List Cover → List ℕ
@@ -105,4 +105,4 @@ written (accepted cs) before = sheet cs ++ drop (3 * length cs) before
 
 -- backings minus payouts, or 0
 unfoldable pub spare : Field → ℕ
-spare entry = backingCount entry - length (payouts entry)
+spare entry = backing_count entry - length (payouts entry)

@@ -5,10 +5,10 @@ use mathlib.Core.List.{flat_map}
 use borrow.Author.Tests.{lt-leb}
 use lib.ListN.{length-map}
 use Rattle.laws.specs.Lists.{filter}
-use Rattle.laws.proofs.Lists.{Every, every_append, every-filter, every-flatMap}
+use Rattle.laws.proofs.Lists.{Every, every_append, every-filter, every-flat_map}
 use Rattle.laws.proofs.Truths.{chosen}
 use Rattle.tags.specs.Tag.{Limits, Denies, Guard, Not, Or, And, Eq, Ge, between}
-use Rattle.fields.specs.Field.{Field, Fields, Placed, length_of, whole, front, tag, parts, size, sizes, placed, placedParts, placedFrom}
+use Rattle.fields.specs.Field.{Field, Fields, Placed, length_of, whole, front, tag, parts, size, sizes, placed, placed_parts, placed_from}
 use Rattle.fields.specs.Field.Field.{field}
 use Rattle.fields.specs.Field.Fields.{end, next}
 use Rattle.fields.specs.Table.{Listed}
@@ -16,8 +16,8 @@ use Rattle.fields.proofs.Reading.{front-none}
 use Rattle.fields.proofs.Places.{front-size, parts-inside}
 use Rattle.fields.proofs.Inside.{Stands, parts-stand}
 use Rattle.fields.proofs.Tables.{listed-front}
-use Rattle.conditions.specs.Conditions.{Condition, splitAnd, splitEach, splitFirst, negated, negatedEach, negatedFirst, conditionsOf, conditionsFrom, requiredConditions}
-use Rattle.conditions.specs.Table.{mark, marks, conditionAt}
+use Rattle.conditions.specs.Conditions.{Condition, split_and, split_each, split_first, negated, negated_each, negated_first, conditions_of, conditions_from, required_conditions}
+use Rattle.conditions.specs.Table.{mark, marks, condition_at}
 use Rattle.conditions.proofs.Few.{required-few}
 
 -- What goes from a field to its parts holds of every condition in it
@@ -26,21 +26,21 @@ use Rattle.conditions.proofs.Few.{required-few}
 abbrev pub Holds : (Placed → Type 0) → Condition → Type 0
 Holds P c = P (record { place = c.place; this = c.this })
 
-module _ (P : Placed → Type 0) (down : (p : Placed) → P p → Every P (placedParts p)) where
+module _ (P : Placed → Type 0) (down : (p : Placed) → P p → Every P (placed_parts p)) where
   mutual
-    unfolding splitAnd placed
+    unfolding split_and placed
 
-    split-every : (n : ℕ) (f : Field) → P (record { place = n; this = f }) → Every (Holds P) (splitAnd n f)
+    split-every : (n : ℕ) (f : Field) → P (record { place = n; this = f }) → Every (Holds P) (split_and n f)
     split-every n (field t x ps) p =
         chosen (Every (Holds P)) (eqb t And) (split-each-every (n + 3) ps (down (record { place = n; this = field t x ps }) p)) (p, tt)
 
-    split-each-every : (n : ℕ) (fs : Fields) → Every P (placed n fs) → Every (Holds P) (splitEach n fs)
+    split-each-every : (n : ℕ) (fs : Fields) → Every P (placed n fs) → Every (Holds P) (split_each n fs)
     split-each-every n (end r) e = tt
     split-each-every n (next f fs) e =
-        every_append (Holds P) (splitAnd n f) (splitEach (n + size f) fs) (split-every n f e.0) (split-each-every (n + size f) fs e.1)
+        every_append (Holds P) (split_and n f) (split_each (n + size f) fs) (split-every n f e.0) (split-each-every (n + size f) fs e.1)
 
-  split-first-every : (n : ℕ) (fs : Fields) → Every P (placed n fs) → Every (Holds P) (splitFirst n fs)
-  unfolding splitFirst placed
+  split-first-every : (n : ℕ) (fs : Fields) → Every P (placed n fs) → Every (Holds P) (split_first n fs)
+  unfolding split_first placed
   split-first-every n (end r) e = tt
   split-first-every n (next f fs) e = split-every n f e.0
 
@@ -53,31 +53,31 @@ module _ (P : Placed → Type 0) (down : (p : Placed) → P p → Every P (place
         chosen (Every (Holds P)) (eqb t Not) (split-first-every (n + 3) ps e)
         (chosen (Every (Holds P)) (eqb t Or) (negated-each-every (n + 3) ps e) (chosen (Every (Holds P)) (between Eq Ge t) (p, tt) tt))
 
-    negated-each-every : (n : ℕ) (fs : Fields) → Every P (placed n fs) → Every (Holds P) (negatedEach n fs)
+    negated-each-every : (n : ℕ) (fs : Fields) → Every P (placed n fs) → Every (Holds P) (negated_each n fs)
     negated-each-every n (end r) e = tt
     negated-each-every n (next f fs) e =
-        every_append (Holds P) (negated n f) (negatedEach (n + size f) fs) (negated-every n f e.0) (negated-each-every (n + size f) fs e.1)
+        every_append (Holds P) (negated n f) (negated_each (n + size f) fs) (negated-every n f e.0) (negated-each-every (n + size f) fs e.1)
 
-  negated-first-every : (n : ℕ) (fs : Fields) → Every P (placed n fs) → Every (Holds P) (negatedFirst n fs)
-  unfolding negatedFirst placed
+  negated-first-every : (n : ℕ) (fs : Fields) → Every P (placed n fs) → Every (Holds P) (negated_first n fs)
+  unfolding negated_first placed
   negated-first-every n (end r) e = tt
   negated-first-every n (next f fs) e = negated-every n f e.0
 
-  conditions-every : (p : Placed) → P p → Every (Holds P) (conditionsOf p)
-  unfolding conditionsOf
+  conditions-every : (p : Placed) → P p → Every (Holds P) (conditions_of p)
+  unfolding conditions_of
   conditions-every p e =
       chosen (Every (Holds P)) (eqb (tag p.this) Denies)
       (negated-first-every (p.place + 3) (parts p.this) (down p e)) (split-first-every (p.place + 3) (parts p.this) (down p e))
 
-  pub required-every : (f : Field) → P (record { place = 0; this = f }) → Every (Holds P) (requiredConditions f)
-  unfolding requiredConditions placedFrom
+  pub required-every : (f : Field) → P (record { place = 0; this = f }) → Every (Holds P) (required_conditions f)
+  unfolding required_conditions placed_from
   required-every f e =
-      every_append (Holds P) (conditionsFrom Limits Denies 3 (parts f)) (conditionsFrom Guard Guard 3 (parts f))
+      every_append (Holds P) (conditions_from Limits Denies 3 (parts f)) (conditions_from Guard Guard 3 (parts f))
       (of Limits Denies) (of Guard Guard)
     where
-      of : (low high : ℕ) → Every (Holds P) (conditionsFrom low high 3 (parts f))
+      of : (low high : ℕ) → Every (Holds P) (conditions_from low high 3 (parts f))
       of low high =
-          every-flatMap P (Holds P) conditionsOf conditions-every (placedFrom low high 3 (parts f))
+          every-flat_map P (Holds P) conditions_of conditions-every (placed_from low high 3 (parts f))
           (every-filter P (λ p. between low high (tag p.this)) (placed 3 (parts f)) (down (record { place = 0; this = f }) e))
 
 -- Each stands inside the entry, at its place
@@ -91,42 +91,42 @@ unfolding placed sizes
 row_ends b n (end r) h = tt
 row_ends b n (next f fs) h = (omega arith, row_ends b (n + size f) fs (omega arith))
 
-parts-end : (b : ℕ) (p : Placed) → Ends b p → Every (Ends b) (placedParts p)
+parts-end : (b : ℕ) (p : Placed) → Ends b p → Every (Ends b) (placed_parts p)
 parts-end b p h = row_ends b (p.place + 3) (parts p.this) (omega (arith, parts-inside p.this))
 
 -- where there is no entry, there are no conditions
-none-required : (entry : List ℕ) → whole entry ≡ false → requiredConditions (front entry) ≡ []
-unfolding requiredConditions flat_map placedFrom placed filter
+none-required : (entry : List ℕ) → whole entry ≡ false → required_conditions (front entry) ≡ []
+unfolding required_conditions flat_map placed_from placed filter
 none-required entry w = rw (front-none entry w)
 
 front_ends : (entry : List ℕ) → whole entry ≡ true → size (front entry) ≤ length entry
 front_ends entry w = rw (front-size entry w) (leb-true (3 + length_of entry) (length entry) w)
 
 module _ (entry : List ℕ) where
-  pub conditions-stand : Every (Holds (Stands entry)) (requiredConditions (front entry))
+  pub conditions-stand : Every (Holds (Stands entry)) (required_conditions (front entry))
   conditions-stand = required-every (Stands entry) (parts-stand entry) (front entry) refl
 
-  pub conditions-end : Every (Holds (Ends (length entry))) (requiredConditions (front entry))
+  pub conditions-end : Every (Holds (Ends (length entry))) (required_conditions (front entry))
   conditions-end = go (whole entry) refl
     where
-      go : (w : Bool) → whole entry ≡ w → Every (Holds (Ends (length entry))) (requiredConditions (front entry))
+      go : (w : Bool) → whole entry ≡ w → Every (Holds (Ends (length entry))) (required_conditions (front entry))
       go true w = required-every (Ends (length entry)) (parts-end (length entry)) (front entry) (omega (arith, front_ends entry w))
       go false w = rw (none-required entry w) tt
 
   -- How many there are: each takes three bytes at least
 
-  pub entry-few : 3 * length (requiredConditions (front entry)) ≤ length entry
+  pub entry-few : 3 * length (required_conditions (front entry)) ≤ length entry
   entry-few = go (whole entry) refl
     where
-      go : (w : Bool) → whole entry ≡ w → 3 * length (requiredConditions (front entry)) ≤ length entry
+      go : (w : Bool) → whole entry ≡ w → 3 * length (required_conditions (front entry)) ≤ length entry
       go true w = omega (arith, required-few (front entry), front_ends entry w)
       go false w = rw (none-required entry w) (omega arith)
 
   -- The numbers of the table give them back
 
   read-mark : (n : ℕ) (b : Bool) (f : Field) → n < 32768 → front (drop n entry) ≡ f →
-      conditionAt entry (mark (record { place = n; flipped = b; this = f })) ≡ record { place = n; flipped = b; this = f }
-  unfolding mark conditionAt
+      condition_at entry (mark (record { place = n; flipped = b; this = f })) ≡ record { place = n; flipped = b; this = f }
+  unfolding mark condition_at
   read-mark n true f h e =
       let z : (n + 32768) % 32768 ≡ n = omega arith in
       rw (mod-eq_of_lt h, z, le-leb 32768 (n + 32768) (omega arith), e)
@@ -135,7 +135,7 @@ module _ (entry : List ℕ) where
       rw (z, z, lt-leb 32768 n h, e)
 
   read-marks : length entry ≤ 32768 → (cs : List Condition) → Every (Holds (Stands entry)) cs → Every (Holds (Ends (length entry))) cs →
-      map (conditionAt entry) (marks cs) ≡ cs
+      map (condition_at entry) (marks cs) ≡ cs
   read-marks h [] e l = refl
   read-marks h (c ∷ cs) e l =
       rw (
@@ -143,13 +143,13 @@ module _ (entry : List ℕ) where
         read-marks h cs e.1 l.1,
       )
 
-  pub conditions-read : length entry ≤ 32768 → map (conditionAt entry) (marks (requiredConditions (front entry))) ≡ requiredConditions (front entry)
-  conditions-read h = read-marks h (requiredConditions (front entry)) conditions-stand conditions-end
+  pub conditions-read : length entry ≤ 32768 → map (condition_at entry) (marks (required_conditions (front entry))) ≡ required_conditions (front entry)
+  conditions-read h = read-marks h (required_conditions (front entry)) conditions-stand conditions-end
 
   -- a table with an element for each three bytes of the entry has room for all of them
-  module _ (table last : List ℕ) (r : ℕ) (p : Listed (marks (requiredConditions (front entry))) table 0 last r) where
+  module _ (table last : List ℕ) (r : ℕ) (p : Listed (marks (required_conditions (front entry))) table 0 last r) where
     pub table-wide : length entry ≤ 3 * length table → r ≤ length table
-    table-wide h = omega (arith, p.count, length-map (requiredConditions (front entry)) mark, entry-few)
+    table-wide h = omega (arith, p.count, length-map (required_conditions (front entry)) mark, entry-few)
 
-    pub table-read : length entry ≤ 32768 → r ≤ length table → map (conditionAt entry) (take r last) ≡ requiredConditions (front entry)
-    table-read h l = rw (listed-front (marks (requiredConditions (front entry))) table last r p l) (conditions-read h)
+    pub table-read : length entry ≤ 32768 → r ≤ length table → map (condition_at entry) (take r last) ≡ required_conditions (front entry)
+    table-read h l = rw (listed-front (marks (required_conditions (front entry))) table last r p l) (conditions-read h)

@@ -2,7 +2,7 @@
 use Rattle.std.specs.Prelude.{ℕ, ◌+◌, Bool, true, false, cond, eqb}
 use mathlib.Core.List.{List, [], ◌∷◌, ◌++◌, flat_map}
 use Rattle.tags.specs.Tag.{Limits, Denies, Guard, Not, Or, And, Eq, Ne, Lt, Gt, Le, Ge, between}
-use Rattle.fields.specs.Field.{Field, Fields, Placed, tag, parts, size, placedFrom}
+use Rattle.fields.specs.Field.{Field, Fields, Placed, tag, parts, size, placed_from}
 use Rattle.fields.specs.Field.Field.{field}
 use Rattle.fields.specs.Field.Fields.{end, next}
 
@@ -14,51 +14,51 @@ pub record Condition : Type 0 where
 
 unfoldable mutual
   -- an expression that is required: And is split, unpeeled
-  pub splitAnd : ℕ → Field → List Condition
-  splitAnd n (field t x ps) =
-      cond (eqb t And) (splitEach (n + 3) ps) (record { place = n; flipped = false; this = field t x ps } ∷ [])
+  pub split_and : ℕ → Field → List Condition
+  split_and n (field t x ps) =
+      cond (eqb t And) (split_each (n + 3) ps) (record { place = n; flipped = false; this = field t x ps } ∷ [])
 
   -- each of some parts
-  pub splitEach : ℕ → Fields → List Condition
-  splitEach n (end r) = []
-  splitEach n (next f fs) = splitAnd n f ++ splitEach (n + size f) fs
+  pub split_each : ℕ → Fields → List Condition
+  split_each n (end r) = []
+  split_each n (next f fs) = split_and n f ++ split_each (n + size f) fs
 
 -- the first of some parts
-unfoldable pub splitFirst : ℕ → Fields → List Condition
-splitFirst n (end r) = []
-splitFirst n (next f fs) = splitAnd n f
+unfoldable pub split_first : ℕ → Fields → List Condition
+split_first n (end r) = []
+split_first n (next f fs) = split_and n f
 
 unfoldable mutual
   -- an expression that is denied, unpeeled: `not e` gives e, split; Or gives both negations; a comparison is flipped; others
   -- give nothing
   pub negated : ℕ → Field → List Condition
   negated n (field t x ps) =
-      cond (eqb t Not) (splitFirst (n + 3) ps)
-      (cond (eqb t Or) (negatedEach (n + 3) ps)
+      cond (eqb t Not) (split_first (n + 3) ps)
+      (cond (eqb t Or) (negated_each (n + 3) ps)
       (cond (between Eq Ge t) (record { place = n; flipped = true; this = field t x ps } ∷ []) []))
 
   -- each of some parts
-  pub negatedEach : ℕ → Fields → List Condition
-  negatedEach n (end r) = []
-  negatedEach n (next f fs) = negated n f ++ negatedEach (n + size f) fs
+  pub negated_each : ℕ → Fields → List Condition
+  negated_each n (end r) = []
+  negated_each n (next f fs) = negated n f ++ negated_each (n + size f) fs
 
 -- the first of some parts
-unfoldable pub negatedFirst : ℕ → Fields → List Condition
-negatedFirst n (end r) = []
-negatedFirst n (next f fs) = negated n f
+unfoldable pub negated_first : ℕ → Fields → List Condition
+negated_first n (end r) = []
+negated_first n (next f fs) = negated n f
 
 -- of a clause or a guard: a denial is negated, a limit and a guard stand as they are
-unfoldable pub conditionsOf : Placed → List Condition
-conditionsOf p =
-    cond (eqb (tag p.this) Denies) (negatedFirst (p.place + 3) (parts p.this)) (splitFirst (p.place + 3) (parts p.this))
+unfoldable pub conditions_of : Placed → List Condition
+conditions_of p =
+    cond (eqb (tag p.this) Denies) (negated_first (p.place + 3) (parts p.this)) (split_first (p.place + 3) (parts p.this))
 
 -- of those parts whose tags are from `low` to `high`, the first part at a place
-abbrev pub conditionsFrom : (low high : ℕ) → ℕ → Fields → List Condition
-conditionsFrom low high n fs = flat_map conditionsOf (placedFrom low high n fs)
+abbrev pub conditions_from : (low high : ℕ) → ℕ → Fields → List Condition
+conditions_from low high n fs = flat_map conditions_of (placed_from low high n fs)
 
 -- of an entry: its clauses, then the guards of its body, with places counted from the entry's own
-unfoldable pub requiredConditions : Field → List Condition
-requiredConditions entry = conditionsFrom Limits Denies 3 (parts entry) ++ conditionsFrom Guard Guard 3 (parts entry)
+unfoldable pub required_conditions : Field → List Condition
+required_conditions entry = conditions_from Limits Denies 3 (parts entry) ++ conditions_from Guard Guard 3 (parts entry)
 
 -- Eq/Ne, Lt/Ge, Gt/Le trade places
 unfoldable pub opposite : ℕ → ℕ

@@ -12,5 +12,5 @@ abbrev pub marks : List Condition → List ℕ
 marks cs = map mark cs
 
 -- the condition of an entry that a number of the table stands for
-unfoldable pub conditionAt : List ℕ → ℕ → Condition
-conditionAt entry k = record { place = k % 32768; flipped = leb 32768 k; this = front (drop (k % 32768) entry) }
+unfoldable pub condition_at : List ℕ → ℕ → Condition
+condition_at entry k = record { place = k % 32768; flipped = leb 32768 k; this = front (drop (k % 32768) entry) }

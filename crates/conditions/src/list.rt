@@ -5,7 +5,7 @@
 ghost use Rattle.std.specs.Prelude.{cond};
 ghost use Rattle.fields.specs.Field.{fields, front};
 ghost use Rattle.fields.specs.Table.{Listed, Room};
-ghost use Rattle.conditions.specs.Conditions.{splitFirst, splitEach, negatedFirst, negatedEach, conditionsFrom, requiredConditions};
+ghost use Rattle.conditions.specs.Conditions.{split_first, split_each, negated_first, negated_each, conditions_from, required_conditions};
 ghost use Rattle.conditions.specs.Table.{marks};
 
 use fields::front::{after_front, first_from, front_tag, is_whole, length_of, parts_of, tag_of};
@@ -21,7 +21,7 @@ const FLIPPED: usize = 32768;
 #[cycle(list_each_list_first_negate_first_split_first)]
 fn split_first(s: &[u8], base: usize, table: &mut [u16], n: usize) -> usize
     requires { Room s.now base n }
-    ensures { Listed (marks (splitFirst base (fields s.now))) table.old n table.new result }
+    ensures { Listed (marks (split_first base (fields s.now))) table.old n table.new result }
 {
     if !is_whole(s) {
         return n;
@@ -36,7 +36,7 @@ fn split_first(s: &[u8], base: usize, table: &mut [u16], n: usize) -> usize
 #[cycle(list_each_list_first_negate_first_split_first)]
 fn negate_first(s: &[u8], base: usize, table: &mut [u16], n: usize) -> usize
     requires { Room s.now base n }
-    ensures { Listed (marks (negatedFirst base (fields s.now))) table.old n table.new result }
+    ensures { Listed (marks (negated_first base (fields s.now))) table.old n table.new result }
 {
     if !is_whole(s) {
         return n;
@@ -56,7 +56,7 @@ fn negate_first(s: &[u8], base: usize, table: &mut [u16], n: usize) -> usize
 #[cycle(list_each_list_first_negate_first_split_first)]
 fn list_first(s: &[u8], base: usize, denied: bool, table: &mut [u16], n: usize) -> usize
     requires { Room s.now base n }
-    ensures { Listed (marks (cond denied (negatedFirst base (fields s.now)) (splitFirst base (fields s.now)))) table.old n table.new result }
+    ensures { Listed (marks (cond denied (negated_first base (fields s.now)) (split_first base (fields s.now)))) table.old n table.new result }
 {
     if denied {
         return negate_first(s, base, table, n);
@@ -68,7 +68,7 @@ fn list_first(s: &[u8], base: usize, denied: bool, table: &mut [u16], n: usize) 
 #[cycle(list_each_list_first_negate_first_split_first)]
 fn list_each(s: &[u8], base: usize, denied: bool, table: &mut [u16], n: usize) -> usize
     requires { Room s.now base n }
-    ensures { Listed (marks (cond denied (negatedEach base (fields s.now)) (splitEach base (fields s.now)))) table.old n table.new result }
+    ensures { Listed (marks (cond denied (negated_each base (fields s.now)) (split_each base (fields s.now)))) table.old n table.new result }
 {
     let mut t = s;
     let mut at = base;
@@ -86,7 +86,7 @@ fn list_each(s: &[u8], base: usize, denied: bool, table: &mut [u16], n: usize) -
 // behind its three-byte head.
 fn list_from(s: &[u8], low: u8, high: u8, table: &mut [u16], n: usize) -> usize
     requires { Room s.now 3 n }
-    ensures { Listed (marks (conditionsFrom low high 3 (fields s.now))) table.old n table.new result }
+    ensures { Listed (marks (conditions_from low high 3 (fields s.now))) table.old n table.new result }
 {
     let mut t = first_from(s, low, high);
     let mut m = n;
@@ -103,7 +103,7 @@ fn list_from(s: &[u8], low: u8, high: u8, table: &mut [u16], n: usize) -> usize
 // those of its clauses, then those of its guards. A number is the place of the condition's expression, counted from the
 // entry's own, with 32,768 more if the condition is flipped.
 pub fn list_conditions(entry: &[u8], table: &mut [u16]) -> usize
-    ensures { Listed (marks (requiredConditions (front entry.now))) table.old 0 table.new result }
+    ensures { Listed (marks (required_conditions (front entry.now))) table.old 0 table.new result }
 {
     let parts = parts_of(entry);
     let n = list_from(parts, LIMITS, DENIES, table, 0);

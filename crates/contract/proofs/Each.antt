@@ -3,7 +3,7 @@ use Rattle.std.proofs.Common.{ℕ, zero, suc, ◌≤◌, ◌<◌, ◌≡◌, ref
 use mathlib.Core.List.{flat_map}
 use Rattle.fields.specs.Field.{Field, fields, nothing}
 use Rattle.model.specs.Model.{entries}
-use Rattle.questions.specs.Questions.{Asked, passes, fails, askFile}
+use Rattle.questions.specs.Questions.{Asked, passes, fails, ask_file}
 use Rattle.questions.specs.Answers.{asked}
 use Rattle.questions.specs.declared.check.Answer.{Answer}
 use Rattle.questions.specs.declared.check.Answer.TheVariants.{Passes, Refused}
@@ -12,9 +12,9 @@ use Rattle.claim.proofs.Fitting.{short-file}
 use Rattle.verdict.proofs.Asking.{ninth}
 use Rattle.output.specs.Output.{Written}
 use Rattle.contract.specs.Answer.{outcome, first_of, second_of}
-use Rattle.contract.specs.Records.{recorded, verdictOn, recordOn, below, atLeastOne, records, largest, outcomeOfAll, coversEnough}
+use Rattle.contract.specs.Records.{recorded, verdict_on, record_on, below, at_least_one, records, largest, outcome_of_all, covers_enough}
 use Rattle.contract.specs.Coded.{head_of}
-use Rattle.contract.specs.Each.{recordCount, eachRecord, largestOfEach, EachRecorded, AllRecorded, RefusalRecorded}
+use Rattle.contract.specs.Each.{record_count, each_record, largest_of_each, EachRecorded, AllRecorded, RefusalRecorded}
 use Rattle.contract.specs.declared.records.Recorded.{Recorded}
 
 pub refusal-recorded : (k p : ℕ) (t u : List ℕ) (r : ℕ) → Written (head_of (record { outcome = 2; first = k; second = p })) t 0 u r →
@@ -28,8 +28,8 @@ unfolding recorded second_of
 refusal-same entry k p = refl
 
 -- by the answer to questions 1 to 8
-module _ (file : List ℕ) (a : Answer) (e : asked a ≡ askFile file) where
-  pub asked-all : a ≡ Passes → askFile file ≡ passes
+module _ (file : List ℕ) (a : Answer) (e : asked a ≡ ask_file file) where
+  pub asked-all : a ≡ Passes → ask_file file ≡ passes
   asked-all f = sym e ∙ ap asked f
 
   -- the longer table has a number for each three bytes
@@ -37,45 +37,45 @@ module _ (file : List ℕ) (a : Answer) (e : asked a ≡ askFile file) where
   table-enough f = omega (arith, short-file file (asked-all f))
 
   pub refused-each : (k p : ℕ) → a ≡ Refused k p → (t u : List ℕ) (r : Recorded) → RefusalRecorded k p t u r → EachRecorded file t u r
-  unfolding largestOfEach recordCount eachRecord
+  unfolding largest_of_each record_count each_record
   refused-each k p f t u r w =
-      let h : askFile file ≡ fails k p = sym e ∙ ap asked f in
-      record { what = rw (largestOfEach, h) w.what; many = rw (recordCount, h) w.many; bytes = rw (eachRecord, h) w.bytes }
+      let h : ask_file file ≡ fails k p = sym e ∙ ap asked f in
+      record { what = rw (largest_of_each, h) w.what; many = rw (record_count, h) w.many; bytes = rw (each_record, h) w.bytes }
 
-pub some-there : (n : ℕ) → 0 < n → atLeastOne n ≡ n
-unfolding atLeastOne
+pub some-there : (n : ℕ) → 0 < n → at_least_one n ≡ n
+unfolding at_least_one
 some-there zero h = absurd (omega (arith, h))
 some-there (suc n) h = refl
 
 module _ (file before u : List ℕ) (r : Recorded) (i : EachRecorded file before u r) where
   -- there are records
   pub some-all : (r.count ≡ 0 → ⊥) → AllRecorded file before u r
-  unfolding outcomeOfAll largestOfEach records eachRecord recordCount
-  some-all h = go (askFile file) refl
+  unfolding outcome_of_all largest_of_each records each_record record_count
+  some-all h = go (ask_file file) refl
     where
-      go : (a : Asked) → askFile file ≡ a → AllRecorded file before u r
-      go (fails k p) e = record { what = rw (outcomeOfAll, e) (rw (largestOfEach, e) at i.what); bytes = rw (records, e) (rw (eachRecord, e) at i.bytes) }
+      go : (a : Asked) → ask_file file ≡ a → AllRecorded file before u r
+      go (fails k p) e = record { what = rw (outcome_of_all, e) (rw (largest_of_each, e) at i.what); bytes = rw (records, e) (rw (each_record, e) at i.bytes) }
       go passes e =
-          let c : r.count ≡ length (entries (fields file)) = rw (recordCount, e) at i.many in
+          let c : r.count ≡ length (entries (fields file)) = rw (record_count, e) at i.many in
           let some : 0 < length (entries (fields file)) = pos_of_ne-zero (λ z. h (c ∙ z)) in
           record {
-            what = rw (outcomeOfAll, e, some-there (length (entries (fields file))) some) (rw (largestOfEach, e) at i.what);
-            bytes = rw (records, e, some-there (length (entries (fields file))) some) (rw (eachRecord, e) at i.bytes);
+            what = rw (outcome_of_all, e, some-there (length (entries (fields file))) some) (rw (largest_of_each, e) at i.what);
+            bytes = rw (records, e, some-there (length (entries (fields file))) some) (rw (each_record, e) at i.bytes);
           }
 
   -- there are none, and so the file has passed and has no entries
   module _ (h : r.count ≡ 0) (v : List ℕ) (x : Recorded) (w : RefusalRecorded 9 0 u v x) where
     pub none-all : AllRecorded file before v x
-    unfolding outcomeOfAll records eachRecord recordCount recordOn verdictOn verdict atLeastOne largest outcome below flat_map
-    none-all = go (askFile file) refl
+    unfolding outcome_of_all records each_record record_count record_on verdict_on verdict at_least_one largest outcome below flat_map
+    none-all = go (ask_file file) refl
       where
-        go : (a : Asked) → askFile file ≡ a → AllRecorded file before v x
-        go (fails k p) e = absurd (omega (arith, h, rw (recordCount, e) at i.many))
+        go : (a : Asked) → ask_file file ≡ a → AllRecorded file before v x
+        go (fails k p) e = absurd (omega (arith, h, rw (record_count, e) at i.many))
         go passes e =
-            let none : length (entries (fields file)) ≡ 0 = omega (arith, h, rw (recordCount, e) at i.many) in
-            let first : verdictOn file 0 ≡ refused 9 0 = rw (verdictOn, verdict, e) (ninth (fields file) 0 coversEnough (omega (arith, none))) in
-            let kept : u ≡ before = rw (eachRecord, e, none) at i.bytes.kept in
+            let none : length (entries (fields file)) ≡ 0 = omega (arith, h, rw (record_count, e) at i.many) in
+            let first : verdict_on file 0 ≡ refused 9 0 = rw (verdict_on, verdict, e) (ninth (fields file) 0 covers_enough (omega (arith, none))) in
+            let kept : u ≡ before = rw (each_record, e, none) at i.bytes.kept in
             record {
-              what = rw (outcomeOfAll, e, none, first) w.what;
-              bytes = rw (records, e, none, recordOn, first, refusal-same, append-nil, ← kept) w.bytes;
+              what = rw (outcome_of_all, e, none, first) w.what;
+              bytes = rw (records, e, none, record_on, first, refusal-same, append-nil, ← kept) w.bytes;
             }

@@ -3,29 +3,29 @@ use Rattle.std.proofs.Common.{ℕ, zero, suc, ◌+◌, ◌*◌, ◌%◌, ◌≤�
 use mathlib.Core.Option.{none, some}
 use lib.ListN.{get_or-map}
 use Rattle.laws.specs.Lists.{any, filter}
-use Rattle.laws.specs.Texts.{sameBytes}
+use Rattle.laws.specs.Texts.{same_bytes}
 use Rattle.laws.proofs.Lists.{Every, every-filter, every-at}
-use Rattle.tags.specs.Tag.{State, Entry, Call, isExpression, between}
-use Rattle.fields.specs.Field.{Field, Fields, Placed, fields, nothing, tag, size, sizes, placed, placedFrom}
+use Rattle.tags.specs.Tag.{State, Entry, Call, is_expression, between}
+use Rattle.fields.specs.Field.{Field, Fields, Placed, fields, nothing, tag, size, sizes, placed, placed_from}
 use Rattle.fields.specs.Field.Field.{field}
 use Rattle.fields.specs.Field.Fields.{end, next}
 use Rattle.fields.proofs.Inside.{Stands}
 use Rattle.fields.proofs.Places.{tree-size}
 use Rattle.model.specs.Model.{states, entries, name_of}
 use Rattle.grammar.specs.Grammar.{slots_of, advance, complete}
-use Rattle.questions.specs.Questions.{Asked, passes, fails, ask, ◌and_then◌, contentAllowed, depthInside, askField, askFields, askNames, at_most, askForm, askFile}
-use Rattle.walking.specs.Walking.{bodyExprs, isPayout, payouts}
+use Rattle.questions.specs.Questions.{Asked, passes, fails, ask, ◌and_then◌, content_allowed, depth_inside, ask_field, ask_fields, ask_names, at_most, ask_form, ask_file}
+use Rattle.walking.specs.Walking.{body_exprs, is_payout, payouts}
 use Rattle.walking.specs.Table.{placed_at, places_of}
-use Rattle.entries.specs.Calls.{passesAt, placesWhere, bodyWhere}
+use Rattle.entries.specs.Calls.{passes_at, places_where, body_where}
 use Rattle.entries.specs.Entered.{nowhere}
-use Rattle.claim.specs.Verdict.{backingCount, entry_at, askEntry}
+use Rattle.claim.specs.Verdict.{backing_count, entry_at, ask_entry}
 use Rattle.walking.proofs.Calls.{payout-call}
 use Rattle.entries.proofs.Called.{places-where}
 use Rattle.verdict.proofs.Asking.{entries-stand}
 
 -- the largest number that fits in two bytes
-abbrev pub mostInTwoBytes : ℕ
-mostInTwoBytes = 65535
+abbrev pub most_in_two_bytes : ℕ
+most_in_two_bytes = 65535
 
 -- a run of questions passes, or fails with a number of two digits and a place up to b
 abbrev pub Fine : ℕ → Asked → Type 0
@@ -42,22 +42,22 @@ module _ (b : ℕ) where
   fine-ask false k p g h = (g, h)
 
   -- whether the next field may stand here
-  fine-advance : (a : Option (List ℕ)) (outer depth place : ℕ) (f : Field) (fs : Fields) → place ≤ b → Fine b (askField depth place f) →
-      ((left : List ℕ) → Fine b (askFields left outer depth (place + size f) fs)) →
-      Fine b (elim a [ none ↦ fails 3 place | some left ↦ askField depth place f and_then askFields left outer depth (place + size f) fs ])
+  fine-advance : (a : Option (List ℕ)) (outer depth place : ℕ) (f : Field) (fs : Fields) → place ≤ b → Fine b (ask_field depth place f) →
+      ((left : List ℕ) → Fine b (ask_fields left outer depth (place + size f) fs)) →
+      Fine b (elim a [ none ↦ fails 3 place | some left ↦ ask_field depth place f and_then ask_fields left outer depth (place + size f) fs ])
   fine-advance none outer depth place f fs h x y = (omega arith, h)
-  fine-advance (some left) outer depth place f fs h x y = fine-then (askField depth place f) _ x (y left)
+  fine-advance (some left) outer depth place f fs h x y = fine-then (ask_field depth place f) _ x (y left)
 
   mutual
-    unfolding askField size
+    unfolding ask_field size
 
-    fine-field : (depth place : ℕ) (f : Field) → place + size f ≤ b → Fine b (askField depth place f)
+    fine-field : (depth place : ℕ) (f : Field) → place + size f ≤ b → Fine b (ask_field depth place f)
     fine-field depth place (field t x ps) h =
-        fine-then (ask (not (isExpression t) || leb depth 32) 4 place) _ (fine-ask (not (isExpression t) || leb depth 32) 4 place (omega arith) (omega (arith, h)))
-        (fine-then (ask (contentAllowed t x) 5 place) _ (fine-ask (contentAllowed t x) 5 place (omega arith) (omega (arith, h)))
-        (fine-fields (slots_of t) place (depthInside t depth) (place + 3) ps (omega (arith, h)) (omega (arith, h))))
+        fine-then (ask (not (is_expression t) || leb depth 32) 4 place) _ (fine-ask (not (is_expression t) || leb depth 32) 4 place (omega arith) (omega (arith, h)))
+        (fine-then (ask (content_allowed t x) 5 place) _ (fine-ask (content_allowed t x) 5 place (omega arith) (omega (arith, h)))
+        (fine-fields (slots_of t) place (depth_inside t depth) (place + 3) ps (omega (arith, h)) (omega (arith, h))))
 
-    fine-fields : (slots : List ℕ) (outer depth place : ℕ) (fs : Fields) → outer ≤ b → place + sizes fs ≤ b → Fine b (askFields slots outer depth place fs)
+    fine-fields : (slots : List ℕ) (outer depth place : ℕ) (fs : Fields) → outer ≤ b → place + sizes fs ≤ b → Fine b (ask_fields slots outer depth place fs)
     fine-fields slots outer depth place (end []) g h = fine-ask (complete slots) 6 outer (omega arith) g
     fine-fields slots outer depth place (end (x ∷ xs)) g h = (omega arith, omega (arith, h))
     fine-fields slots outer depth place (next f fs) g h =
@@ -73,12 +73,12 @@ module _ (b : ℕ) where
   row_ends n (end r) h = tt
   row_ends n (next f fs) h = (omega (arith, h), row_ends (n + size f) fs (omega (arith, h)))
 
-  fine_names : (earlier : List (List ℕ)) (ps : List Placed) → Every Ends ps → Fine b (askNames earlier ps)
-  unfolding askNames
+  fine_names : (earlier : List (List ℕ)) (ps : List Placed) → Every Ends ps → Fine b (ask_names earlier ps)
+  unfolding ask_names
   fine_names earlier [] e = tt
   fine_names earlier (p ∷ ps) e =
-      fine-then (ask (not (any (sameBytes (name_of p.this)) earlier)) 7 p.place) _
-      (fine-ask (not (any (sameBytes (name_of p.this)) earlier)) 7 p.place (omega arith) e.0)
+      fine-then (ask (not (any (same_bytes (name_of p.this)) earlier)) 7 p.place) _
+      (fine-ask (not (any (same_bytes (name_of p.this)) earlier)) 7 p.place (omega arith) e.0)
       (fine_names (earlier ++ name_of p.this ∷ []) ps e.1)
 
   -- at most n: the place of the next one is asked for
@@ -99,25 +99,25 @@ module _ (b : ℕ) where
 
 -- of a file that passes question 1
 module _ (file : List ℕ) (short : length file ≤ 32768) where
-  fields-end : Every (Ends mostInTwoBytes) (placed 0 (fields file))
-  fields-end = row_ends mostInTwoBytes 0 (fields file) (omega (arith, short, tree-size file))
+  fields-end : Every (Ends most_in_two_bytes) (placed 0 (fields file))
+  fields-end = row_ends most_in_two_bytes 0 (fields file) (omega (arith, short, tree-size file))
 
-  entries-end : Every (Ends mostInTwoBytes) (entries (fields file))
-  unfolding entries placedFrom
-  entries-end = every-filter (Ends mostInTwoBytes) (λ p. between Entry Entry (tag p.this)) (placed 0 (fields file)) fields-end
+  entries-end : Every (Ends most_in_two_bytes) (entries (fields file))
+  unfolding entries placed_from
+  entries-end = every-filter (Ends most_in_two_bytes) (λ p. between Entry Entry (tag p.this)) (placed 0 (fields file)) fields-end
 
-  states-end : Every (Ends mostInTwoBytes) (states (fields file))
-  unfolding states placedFrom
-  states-end = every-filter (Ends mostInTwoBytes) (λ p. between State State (tag p.this)) (placed 0 (fields file)) fields-end
+  states-end : Every (Ends most_in_two_bytes) (states (fields file))
+  unfolding states placed_from
+  states-end = every-filter (Ends most_in_two_bytes) (λ p. between State State (tag p.this)) (placed 0 (fields file)) fields-end
 
-  fine-short : Fine mostInTwoBytes (askFile file)
-  unfolding askFile askForm
+  fine-short : Fine most_in_two_bytes (ask_file file)
+  unfolding ask_file ask_form
   fine-short =
-      fine-then mostInTwoBytes (askForm file) _
-      (fine-then mostInTwoBytes (ask (leb (length file) 32768) 1 0) _ (fine-ask mostInTwoBytes (leb (length file) 32768) 1 0 (omega arith) (omega arith))
-      (fine-fields mostInTwoBytes (slots_of 0) 0 1 0 (fields file) (omega arith) (omega (arith, short, tree-size file))))
-      (fine-then mostInTwoBytes (askNames [] (states (fields file))) _ (fine_names mostInTwoBytes [] (states (fields file)) states-end)
-      (fine-most mostInTwoBytes 64 8 (entries (fields file)) (omega arith) nowhere (ends_at mostInTwoBytes (entries (fields file)) entries-end 64)))
+      fine-then most_in_two_bytes (ask_form file) _
+      (fine-then most_in_two_bytes (ask (leb (length file) 32768) 1 0) _ (fine-ask most_in_two_bytes (leb (length file) 32768) 1 0 (omega arith) (omega arith))
+      (fine-fields most_in_two_bytes (slots_of 0) 0 1 0 (fields file) (omega arith) (omega (arith, short, tree-size file))))
+      (fine-then most_in_two_bytes (ask_names [] (states (fields file))) _ (fine_names most_in_two_bytes [] (states (fields file)) states-end)
+      (fine-most most_in_two_bytes 64 8 (entries (fields file)) (omega arith) nowhere (ends_at most_in_two_bytes (entries (fields file)) entries-end 64)))
 
   -- the entry with a number: its payouts are calls, whose places the table of calls holds in two bytes
   module _ (n : ℕ) (h : n < length (entries (fields file))) where
@@ -129,35 +129,35 @@ module _ (file : List ℕ) (short : length file ≤ 32768) where
         let q : Stands file entry = every-at (Stands file) (entries (fields file)) (entries-stand file) n nowhere h in
         ap (λ x. record { place = entry.place; this = x }) q
 
-    payout-ends : (get_or (bodyWhere isPayout entry) 64 nowhere).place ≤ mostInTwoBytes
-    unfolding placesWhere
+    payout-ends : (get_or (body_where is_payout entry) 64 nowhere).place ≤ most_in_two_bytes
+    unfolding places_where
     payout-ends =
-        let c : placesWhere file isPayout (places_of Call (bodyExprs entry)) ≡ map (λ p. p.place) (bodyWhere isPayout entry) =
-        rw same at (places-where file isPayout payout-call entry.place (omega (arith, short))) in
-        let ks = filter (passesAt file isPayout) (places_of Call (bodyExprs entry)) in
-        let e : (get_or (bodyWhere isPayout entry) 64 nowhere).place ≡ get_or ks 64 0 % 65536 =
-        sym (get_or-map (λ p. p.place) (bodyWhere isPayout entry) 64 nowhere)
+        let c : places_where file is_payout (places_of Call (body_exprs entry)) ≡ map (λ p. p.place) (body_where is_payout entry) =
+        rw same at (places-where file is_payout payout-call entry.place (omega (arith, short))) in
+        let ks = filter (passes_at file is_payout) (places_of Call (body_exprs entry)) in
+        let e : (get_or (body_where is_payout entry) 64 nowhere).place ≡ get_or ks 64 0 % 65536 =
+        sym (get_or-map (λ p. p.place) (body_where is_payout entry) 64 nowhere)
         ∙ sym (ap (λ l. get_or l 64 0) c) ∙ get_or-map (λ k. k % 65536) ks 64 0 in
         omega (arith, e)
 
-    pub fine-entry : (lent : ℕ) → Fine mostInTwoBytes (askEntry (fields file) n lent)
-    unfolding askEntry
+    pub fine-entry : (lent : ℕ) → Fine most_in_two_bytes (ask_entry (fields file) n lent)
+    unfolding ask_entry
     fine-entry lent =
-        fine-then mostInTwoBytes (ask (ltb n (length (entries (fields file)))) 9 0) _ (fine-ask mostInTwoBytes (ltb n (length (entries (fields file)))) 9 0 (omega arith) (omega arith))
-        (fine-then mostInTwoBytes (at_most 64 10 (filter (λ p. isPayout p.this) (bodyExprs entry))) _
-        (fine-most mostInTwoBytes 64 10 (bodyWhere isPayout entry) (omega arith) nowhere payout-ends)
-        (fine-then mostInTwoBytes (ask (leb (backingCount entry.this) 64) 11 entry.place) _
-        (fine-ask mostInTwoBytes (leb (backingCount entry.this) 64) 11 entry.place (omega arith) (ends_at mostInTwoBytes (entries (fields file)) entries-end n))
-        (fine-ask mostInTwoBytes (leb (3 * length (payouts entry.this)) lent) 12 0 (omega arith) (omega arith))))
+        fine-then most_in_two_bytes (ask (ltb n (length (entries (fields file)))) 9 0) _ (fine-ask most_in_two_bytes (ltb n (length (entries (fields file)))) 9 0 (omega arith) (omega arith))
+        (fine-then most_in_two_bytes (at_most 64 10 (filter (λ p. is_payout p.this) (body_exprs entry))) _
+        (fine-most most_in_two_bytes 64 10 (body_where is_payout entry) (omega arith) nowhere payout-ends)
+        (fine-then most_in_two_bytes (ask (leb (backing_count entry.this) 64) 11 entry.place) _
+        (fine-ask most_in_two_bytes (leb (backing_count entry.this) 64) 11 entry.place (omega arith) (ends_at most_in_two_bytes (entries (fields file)) entries-end n))
+        (fine-ask most_in_two_bytes (leb (3 * length (payouts entry.this)) lent) 12 0 (omega arith) (omega arith))))
 
-long-refused : (file : List ℕ) → leb (length file) 32768 ≡ false → askFile file ≡ fails 1 0
-unfolding askFile askForm
+long-refused : (file : List ℕ) → leb (length file) 32768 ≡ false → ask_file file ≡ fails 1 0
+unfolding ask_file ask_form
 long-refused file e = cc e
 
 -- of any file
-pub fine-file : (file : List ℕ) → Fine mostInTwoBytes (askFile file)
+pub fine-file : (file : List ℕ) → Fine most_in_two_bytes (ask_file file)
 fine-file file = go (leb (length file) 32768) refl
   where
-    go : (b : Bool) → leb (length file) 32768 ≡ b → Fine mostInTwoBytes (askFile file)
+    go : (b : Bool) → leb (length file) 32768 ≡ b → Fine most_in_two_bytes (ask_file file)
     go true e = fine-short file (leb-true (length file) 32768 e)
     go false e = rw (long-refused file e) (omega arith, omega arith)

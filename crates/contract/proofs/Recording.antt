@@ -3,11 +3,11 @@ use Rattle.std.proofs.Common.{ℕ, suc, ◌-◌, ◌*◌, ◌≤◌, ◌<◌, �
 use mathlib.Core.List.{flat_map}
 use Rattle.walking.specs.Table.{placed_at}
 use Rattle.tags.specs.Tag.{Entry}
-use Rattle.fields.specs.Field.{fields, whole, after, from, fromNth}
+use Rattle.fields.specs.Field.{fields, whole, after, from, from_nth}
 use Rattle.model.specs.Model.{entries}
 use Rattle.model.specs.Shown.{shown}
 use Rattle.model.proofs.Accessors.{shown-nth}
-use Rattle.questions.specs.Questions.{passes, askFile}
+use Rattle.questions.specs.Questions.{passes, ask_file}
 use Rattle.reserves.specs.Holding.{Facts}
 use Rattle.claim.specs.Verdict.{entry_at, verdict}
 use Rattle.claim.proofs.Fitting.{short-file}
@@ -16,28 +16,28 @@ use Rattle.verdict.specs.declared.entry.Place.TheVariants.{At, Nowhere}
 use Rattle.verdict.proofs.Asking.{place-nowhere, place-there, entry-missing, entry-counted, entry-there, not-ninth}
 use Rattle.output.specs.Output.{Written}
 use Rattle.output.proofs.Buffer.{written_none, written-within, same-room, written_then}
-use Rattle.contract.specs.Records.{recorded, verdictOn, recordOn, below, largest, coversEnough}
-use Rattle.contract.specs.Coded.{Askable, entryIn, verdictIn}
-use Rattle.contract.specs.Each.{recordCount, eachRecord, outcomeOn, largestOfEach, EachRecorded, Extensible, OneMore}
+use Rattle.contract.specs.Records.{recorded, verdict_on, record_on, below, largest, covers_enough}
+use Rattle.contract.specs.Coded.{Askable, entry_in, verdict_in}
+use Rattle.contract.specs.Each.{record_count, each_record, outcome_on, largest_of_each, EachRecorded, Extensible, OneMore}
 use Rattle.contract.specs.declared.records.Recorded.{Recorded}
 use Rattle.contract.proofs.Passed.{few-entries}
 use Rattle.contract.proofs.Below.{each-then}
 
 -- t is the file from the next entry on
 pub record Recording (file lent spread before table scratch out facts t : List ℕ) (x : Recorded) : Type 0 where
-  pub passed : askFile file ≡ passes
+  pub passed : ask_file file ≡ passes
   pub asked : Askable file table facts scratch
   pub tables : length table ≡ length lent
   pub others : length scratch ≡ length spread
-  pub here : t ≡ fromNth Entry Entry x.count file
+  pub here : t ≡ from_nth Entry Entry x.count file
   pub counted : x.count ≤ length (entries (fields file))
-  pub worst : x.outcome ≡ largest (outcomeOn file) x.count
-  pub bytes : Written (flat_map (recordOn file) (below x.count)) before 0 out x.end
+  pub worst : x.outcome ≡ largest (outcome_on file) x.count
+  pub bytes : Written (flat_map (record_on file) (below x.count)) before 0 out x.end
 
 module _ (file lent spread before : List ℕ) where
-  pub recording-none : askFile file ≡ passes → length file ≤ 3 * length lent → length file ≤ 3 * length spread → (facts : List ℕ) → Facts file facts →
+  pub recording-none : ask_file file ≡ passes → length file ≤ 3 * length lent → length file ≤ 3 * length spread → (facts : List ℕ) → Facts file facts →
       (t : List ℕ) → t ≡ from Entry Entry file → Recording file lent spread before lent spread before facts t (record { outcome = 0; count = 0; end = 0 })
-  unfolding fromNth largest below flat_map
+  unfolding from_nth largest below flat_map
   recording-none p r l facts q t e =
       record {
         passed = p;
@@ -56,14 +56,14 @@ module _ (file lent spread before : List ℕ) where
     shown-here = shown-nth Entry Entry x.count file t i.here
 
     pub recording-same : length out ≡ length before
-    recording-same = same-room (flat_map (recordOn file) (below x.count)) before 0 out x.end i.bytes
+    recording-same = same-room (flat_map (record_on file) (below x.count)) before 0 out x.end i.bytes
 
     pub recording-all : whole t ≡ false → EachRecorded file before out x
-    unfolding largestOfEach recordCount eachRecord
+    unfolding largest_of_each record_count each_record
     recording-all g =
-        let p : askFile file ≡ passes = i.passed in
+        let p : ask_file file ≡ passes = i.passed in
         let e : length (entries (fields file)) ≡ x.count = omega (arith, i.counted, entry-missing file x.count Nowhere (place-nowhere file x.count t shown-here g) refl) in
-        record { what = rw (largestOfEach, p, e) i.worst; many = rw (recordCount, p, e); bytes = rw (eachRecord, p, e) i.bytes }
+        record { what = rw (largest_of_each, p, e) i.worst; many = rw (record_count, p, e); bytes = rw (each_record, p, e) i.bytes }
 
     module _ (g : whole t ≡ true) where
       found : Found file x.count (At (length file - length t))
@@ -78,26 +78,26 @@ module _ (file lent spread before : List ℕ) where
       pub recording-extensible : Extensible out x
       recording-extensible =
           record {
-            room = written-within (flat_map (recordOn file) (below x.count)) before 0 out x.end i.bytes;
+            room = written-within (flat_map (record_on file) (below x.count)) before 0 out x.end i.bytes;
             few = omega (arith, there, few-entries file i.passed);
           }
 
-      verdict-here : verdictOn file x.count ≡ verdictIn file t
-      unfolding verdictOn verdict
+      verdict-here : verdict_on file x.count ≡ verdict_in file t
+      unfolding verdict_on verdict
       verdict-here =
-          let p : askFile file ≡ passes = i.passed in
-          rw (verdictOn, verdict, p) (not-ninth (fields file) x.count coversEnough there (placed_at file (length file - length t)) entry_here)
+          let p : ask_file file ≡ passes = i.passed in
+          rw (verdict_on, verdict, p) (not-ninth (fields file) x.count covers_enough there (placed_at file (length file - length t)) entry_here)
 
-      record-here : recordOn file x.count ≡ recorded (entryIn file t) (verdictIn file t)
-      unfolding recordOn
+      record-here : record_on file x.count ≡ recorded (entry_in file t) (verdict_in file t)
+      unfolding record_on
       record-here =
-          let e : (entry_at (fields file) x.count).this ≡ entryIn file t = ap (λ p. p.this) entry_here in
-          rw (recordOn, e, verdict-here)
+          let e : (entry_at (fields file) x.count).this ≡ entry_in file t = ap (λ p. p.this) entry_here in
+          rw (record_on, e, verdict-here)
 
       pub recording_on : (v : List ℕ) (y : Recorded) → OneMore file t out v x y → (held : List ℕ) → Facts file held →
           (last : List ℕ) → length last ≡ length table → (used : List ℕ) → length used ≡ length scratch →
           (s next : List ℕ) → s ≡ after t → next ≡ from Entry Entry s → Recording file lent spread before last used v held next y
-      unfolding fromNth largest below
+      unfolding from_nth largest below
       recording_on v y o held q last same used equal s next e f =
           let one : y.count ≡ suc x.count = omega (arith, o.many) in
           record {
@@ -111,6 +111,6 @@ module _ (file lent spread before : List ℕ) where
             here = rw (one, ← i.here, ← e) f;
             counted = omega (arith, there, one);
             worst = rw (one, verdict-here, ← i.worst) o.what;
-            bytes = rw (one, each-then (recordOn file) (below x.count) x.count, record-here)
-                (written_then (flat_map (recordOn file) (below x.count)) before 0 out x.end i.bytes (recorded (entryIn file t) (verdictIn file t)) v y.end o.bytes);
+            bytes = rw (one, each-then (record_on file) (below x.count) x.count, record-here)
+                (written_then (flat_map (record_on file) (below x.count)) before 0 out x.end i.bytes (recorded (entry_in file t) (verdict_in file t)) v y.end o.bytes);
           }

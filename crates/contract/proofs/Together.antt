@@ -2,12 +2,12 @@
 use Rattle.std.proofs.Common.{ℕ, zero, suc, ◌<◌, ◌≡◌, refl, ap, ◌∙◌, Bool, true, false, cond, List, ◌↔◌, arith, ltb-true, ltb-false, ltb, length}
 use Rattle.fields.specs.Field.{fields}
 use Rattle.model.specs.Model.{entries}
-use Rattle.questions.specs.Questions.{Asked, passes, fails, askFile}
+use Rattle.questions.specs.Questions.{Asked, passes, fails, ask_file}
 use Rattle.claim.specs.Verdict.{Verdict, refused, rejected, accepted, verdict}
 use Rattle.claim.specs.Claim.{Accepted}
 use Rattle.verdict.proofs.Asking.{ninth}
 use Rattle.contract.specs.Answer.{outcome}
-use Rattle.contract.specs.Records.{verdictOn, atLeastOne, largest, outcomeOfAll, coversEnough}
+use Rattle.contract.specs.Records.{verdict_on, at_least_one, largest, outcome_of_all, covers_enough}
 use Rattle.contract.proofs.Each.{some-there}
 
 -- the larger of two numbers is 0 where both are
@@ -45,38 +45,38 @@ so-accepted v (cs, e) = ap outcome e
 
 -- the file passes questions 1 to 8 and has entries, and each entry is accepted
 pub record EachAccepted (file : List ℕ) : Type 0 where
-  pub passed : askFile file ≡ passes
+  pub passed : ask_file file ≡ passes
   pub some : 0 < length (entries (fields file))
-  pub each : (n : ℕ) → n < length (entries (fields file)) → Accepted (verdictOn file n)
+  pub each : (n : ℕ) → n < length (entries (fields file)) → Accepted (verdict_on file n)
 
 module _ (file : List ℕ) where
   abbrev count : ℕ
   count = length (entries (fields file))
 
   abbrev what : ℕ → ℕ
-  what n = outcome (verdictOn file n)
+  what n = outcome (verdict_on file n)
 
   -- without entries the first is asked about, and refused
-  some_of : askFile file ≡ passes → largest what (atLeastOne count) ≡ 0 → 0 < count
-  unfolding atLeastOne largest verdictOn verdict outcome
+  some_of : ask_file file ≡ passes → largest what (at_least_one count) ≡ 0 → 0 < count
+  unfolding at_least_one largest verdict_on verdict outcome
   some_of f e = go count refl e
     where
-      go : (k : ℕ) → count ≡ k → largest what (atLeastOne k) ≡ 0 → 0 < count
+      go : (k : ℕ) → count ≡ k → largest what (at_least_one k) ≡ 0 → 0 < count
       go zero h g =
-          let r : verdictOn file 0 ≡ refused 9 0 = rw (verdictOn, verdict, f) (ninth (fields file) 0 coversEnough (omega (arith, h))) in
+          let r : verdict_on file 0 ≡ refused 9 0 = rw (verdict_on, verdict, f) (ninth (fields file) 0 covers_enough (omega (arith, h))) in
           absurd (omega (arith, rw r at g))
       go (suc k) h g = omega (arith, h)
 
-  each_of : (a : Asked) → askFile file ≡ a → ◌≡◌ {A = ℕ} (elim a [ fails number place ↦ 2 | passes ↦ largest what (atLeastOne count) ]) 0 → EachAccepted file
+  each_of : (a : Asked) → ask_file file ≡ a → ◌≡◌ {A = ℕ} (elim a [ fails number place ↦ 2 | passes ↦ largest what (at_least_one count) ]) 0 → EachAccepted file
   each_of (fails k p) f e = absurd (omega (arith, e))
   each_of passes f e =
       let z : 0 < count = some_of f e in
-      record { passed = f; some = z; each = λ n h. accepted-so (verdictOn file n) (each-zero what (atLeastOne count) e n (rw (some-there count z) h)) }
+      record { passed = f; some = z; each = λ n h. accepted-so (verdict_on file n) (each-zero what (at_least_one count) e n (rw (some-there count z) h)) }
 
-  pub together : outcomeOfAll file ≡ 0 ↔ EachAccepted file
-  unfolding outcomeOfAll
+  pub together : outcome_of_all file ≡ 0 ↔ EachAccepted file
+  unfolding outcome_of_all
   together = (
-    each_of (askFile file) refl,
-    λ x. let p : askFile file ≡ passes = x.passed in
-        rw (outcomeOfAll, p, some-there count x.some) (all-zero what count (λ n h. so-accepted (verdictOn file n) (x.each n h))),
+    each_of (ask_file file) refl,
+    λ x. let p : ask_file file ≡ passes = x.passed in
+        rw (outcome_of_all, p, some-there count x.some) (all-zero what count (λ n h. so-accepted (verdict_on file n) (x.each n h))),
   )

@@ -5,40 +5,40 @@ use Rattle.fields.specs.Field.{Field, fields}
 use Rattle.walking.specs.Table.{placed_at}
 use Rattle.entries.specs.Entered.{entry_of}
 use Rattle.claim.specs.Verdict.{Verdict, refused, rejected, accepted, sheet, written, spare}
-use Rattle.verdict.specs.Coded.{coded, placedVerdict}
+use Rattle.verdict.specs.Coded.{coded, placed_verdict}
 use Rattle.verdict.specs.declared.entry.Verdict.{Verdict as CodedVerdict}
 use Rattle.verdict.proofs.Running.{sheet-long}
 use Rattle.output.specs.Output.{Written}
 use Rattle.output.proofs.Buffer.{written_then}
 use Rattle.contract.specs.Answer.{outcome, first_of}
-use Rattle.contract.specs.Records.{twoBytes, recorded, coversEnough}
-use Rattle.contract.specs.Coded.{head_of, recordOf, CoversIn, NumbersOf, Numbered, entryIn, verdictIn, Told}
+use Rattle.contract.specs.Records.{two_bytes, recorded, covers_enough}
+use Rattle.contract.specs.Coded.{head_of, record_of, CoversIn, NumbersOf, Numbered, entry_in, verdict_in, Told}
 use Rattle.contract.specs.Each.{Appended, OneMore}
 use Rattle.contract.specs.declared.numbers.Numbers.{Numbers}
 use Rattle.contract.specs.declared.records.Recorded.{Recorded}
 
 module _ (t : List ℕ) (n : ℕ) (u : List ℕ) (m : ℕ) (v : List ℕ) (r : ℕ) where
-  pub two-written : (k : ℕ) → Written (k / 256 % 256 ∷ []) t n u m → Written (k % 256 ∷ []) u m v r → Written (twoBytes k) t n v r
-  unfolding twoBytes
+  pub two-written : (k : ℕ) → Written (k / 256 % 256 ∷ []) t n u m → Written (k % 256 ∷ []) u m v r → Written (two_bytes k) t n v r
+  unfolding two_bytes
   two-written k p q = written_then (k / 256 % 256 ∷ []) t n u m p (k % 256 ∷ []) v r q
 
-pub head-written : (x : Numbers) (t : List ℕ) (n : ℕ) (u : List ℕ) (k : ℕ) → Written (x.outcome ∷ []) t n u k → (v : List ℕ) (m : ℕ) → Written (twoBytes x.first) u k v m →
-    (w : List ℕ) (r : ℕ) → Written (twoBytes x.second) v m w r → Written (head_of x) t n w r
+pub head-written : (x : Numbers) (t : List ℕ) (n : ℕ) (u : List ℕ) (k : ℕ) → Written (x.outcome ∷ []) t n u k → (v : List ℕ) (m : ℕ) → Written (two_bytes x.first) u k v m →
+    (w : List ℕ) (r : ℕ) → Written (two_bytes x.second) v m w r → Written (head_of x) t n w r
 unfolding head_of
 head-written x t n u k p v m q w r s =
-    written_then (x.outcome ∷ []) t n u k p (twoBytes x.first ++ twoBytes x.second) w r (written_then (twoBytes x.first) u k v m q (twoBytes x.second) w r s)
+    written_then (x.outcome ∷ []) t n u k p (two_bytes x.first ++ two_bytes x.second) w r (written_then (two_bytes x.first) u k v m q (two_bytes x.second) w r s)
 
 pub covers-fit : (x : Numbers) (covers : List ℕ) → CoversIn x covers → x.outcome ≡ 0 → length covers < 2 ^ 64 → Fits w64 (3 * x.first)
 covers-fit x covers c e h = omega (arith, c.within e, h)
 
 module _ (x : Numbers) (covers t : List ℕ) (n : ℕ) (u : List ℕ) (m : ℕ) (p : Written (head_of x) t n u m) where
   -- only an accepted entry has covers
-  pub head-alone : (x.outcome ≡ 0 → ⊥) → Written (recordOf x covers) t n u m
-  unfolding recordOf
+  pub head-alone : (x.outcome ≡ 0 → ⊥) → Written (record_of x covers) t n u m
+  unfolding record_of
   head-alone h = rw (ne_eqb x.outcome 0 h, append-nil) p
 
-  pub covers-behind : x.outcome ≡ 0 → (b : List ℕ) → b ≡ take (3 * x.first) covers → (w : List ℕ) (r : ℕ) → Written b u m w r → Written (recordOf x covers) t n w r
-  unfolding recordOf
+  pub covers-behind : x.outcome ≡ 0 → (b : List ℕ) → b ≡ take (3 * x.first) covers → (w : List ℕ) (r : ℕ) → Written b u m w r → Written (record_of x covers) t n w r
+  unfolding record_of
   covers-behind h b e w r q = rw (eq-eqb x.outcome 0 h, ← e) (written_then (head_of x) t n u m p b w r q)
 
 -- the numbers and the covers of a verdict make its record
@@ -67,23 +67,23 @@ module _ (entry : Field) (v : Verdict) (x : Numbers) (n : NumbersOf entry v x) (
       go (rejected k q) e = rw (ne_eqb x.outcome 0 (λ z. omega (arith, z, n.what ∙ ap outcome e)), e)
       go (refused k q) e = rw (ne_eqb x.outcome 0 (λ z. omega (arith, z, n.what ∙ ap outcome e)), e)
 
-  record-made : recorded entry v ≡ recordOf x after
-  unfolding recorded head_of recordOf
+  record-made : recorded entry v ≡ record_of x after
+  unfolding recorded head_of record_of
   record-made = rw (← n.what, ← n.one, ← n.other, covers-made)
 
 -- of the entry at the front of t, which stands at a place
-module _ (file t : List ℕ) (place : ℕ) (e : place ≡ length file - length t) (before after : List ℕ) (l : length before ≡ coversEnough) (same : length after ≡ length before) where
+module _ (file t : List ℕ) (place : ℕ) (e : place ≡ length file - length t) (before after : List ℕ) (l : length before ≡ covers_enough) (same : length after ≡ length before) where
   abbrev here : Verdict
-  here = placedVerdict (fields file) (placed_at file place) (length before)
+  here = placed_verdict (fields file) (placed_at file place) (length before)
 
   pub entry-told : (x : CodedVerdict) → x ≡ coded (spare (entry_of file place)) here → after ≡ written here before → (r : Numbers) → Numbered x r → Told file t after r
   entry-told x f g r d =
-      let n : NumbersOf (entryIn file t) (verdictIn file t) r = rw (e, l) at (d.told (entry_of file place) here f) in
-      let a : after ≡ written (verdictIn file t) before = g ∙ rw (e, l) in
+      let n : NumbersOf (entry_in file t) (verdict_in file t) r = rw (e, l) at (d.told (entry_of file place) here f) in
+      let a : after ≡ written (verdict_in file t) before = g ∙ rw (e, l) in
       record {
         what = n.what;
-        within = record { within = covers-within (entryIn file t) (verdictIn file t) r n before after a same };
-        made = sym (record-made (entryIn file t) (verdictIn file t) r n before after a same);
+        within = record { within = covers-within (entry_in file t) (verdict_in file t) r n before after a same };
+        made = sym (record-made (entry_in file t) (verdict_in file t) r n before after a same);
       }
 
 -- written behind the earlier ones it is one more

@@ -2,12 +2,12 @@
 -- of the covers written for them, here into no bytes at all.
 use Rattle.std.specs.Prelude.{ℕ, ◌≡◌, List, []}
 use Rattle.fields.specs.Field.{fields}
-use Rattle.questions.specs.Questions.{passes, askFile}
-use Rattle.claim.specs.Verdict.{entry_at, askEntry, written}
+use Rattle.questions.specs.Questions.{passes, ask_file}
+use Rattle.claim.specs.Verdict.{entry_at, ask_entry, written}
 use Rattle.claim.specs.Claim.{Backed}
-use Rattle.contract.specs.Records.{verdictOn, coversEnough}
+use Rattle.contract.specs.Records.{verdict_on, covers_enough}
 
 -- each entry past questions 1 to 8 about the file, and 9 to 12 about the entry, with room for 64 covers
 unfoldable pub EachBacked : List ℕ → Type 0
-EachBacked file = (n : ℕ) → askFile file ≡ passes → askEntry (fields file) n coversEnough ≡ passes →
-    Backed (fields file) (entry_at (fields file) n).this [] (verdictOn file n) (written (verdictOn file n) [])
+EachBacked file = (n : ℕ) → ask_file file ≡ passes → ask_entry (fields file) n covers_enough ≡ passes →
+    Backed (fields file) (entry_at (fields file) n).this [] (verdict_on file n) (written (verdict_on file n) [])

@@ -5,19 +5,19 @@ use Rattle.walking.specs.Table.{placed_at}
 use Rattle.reserves.specs.Holding.{Known}
 use Rattle.entries.specs.Entered.{entry_of}
 use Rattle.claim.specs.Verdict as rules
-use Rattle.verdict.specs.Coded.{coded, placedVerdict}
+use Rattle.verdict.specs.Coded.{coded, placed_verdict}
 use Rattle.verdict.specs.declared.entry.Verdict.{Verdict}
-use Rattle.contract.specs.Records.{twoBytes, recorded, coversEnough}
+use Rattle.contract.specs.Records.{two_bytes, recorded, covers_enough}
 use Rattle.contract.specs.Answer.{outcome, first_of, second_of}
 use Rattle.contract.specs.declared.numbers.Numbers.{Numbers}
 
 -- the numbers as bytes
 unfoldable pub head_of : Numbers → List ℕ
-head_of x = x.outcome ∷ twoBytes x.first ++ twoBytes x.second
+head_of x = x.outcome ∷ two_bytes x.first ++ two_bytes x.second
 
 -- the record: behind the numbers stand the covers of an accepted entry, the first of some bytes
-unfoldable pub recordOf : Numbers → List ℕ → List ℕ
-recordOf x covers = head_of x ++ cond (eqb x.outcome 0) (take (3 * x.first) covers) []
+unfoldable pub record_of : Numbers → List ℕ → List ℕ
+record_of x covers = head_of x ++ cond (eqb x.outcome 0) (take (3 * x.first) covers) []
 
 -- the covers of an accepted entry with these numbers are among some bytes
 pub record CoversIn (x : Numbers) (covers : List ℕ) : Type 0 where
@@ -34,11 +34,11 @@ pub record Numbered (x : Verdict) (r : Numbers) : Type 0 where
   pub told : (entry : Field) (v : rules.Verdict) → x ≡ coded (rules.spare entry) v → NumbersOf entry v r
 
 -- the entry at the front of t, the rest of a file, and the verdict on it
-abbrev pub entryIn : (file t : List ℕ) → Field
-entryIn file t = entry_of file (length file - length t)
+abbrev pub entry_in : (file t : List ℕ) → Field
+entry_in file t = entry_of file (length file - length t)
 
-abbrev pub verdictIn : (file t : List ℕ) → rules.Verdict
-verdictIn file t = placedVerdict (fields file) (placed_at file (length file - length t)) coversEnough
+abbrev pub verdict_in : (file t : List ℕ) → rules.Verdict
+verdict_in file t = placed_verdict (fields file) (placed_at file (length file - length t)) covers_enough
 
 -- an entry of a file can be asked about: the table has a number for each three bytes of a file that passes question 1, and what
 -- is known of the whole file is right
@@ -48,6 +48,6 @@ pub record Askable (file table facts scratch : List ℕ) : Type 0 where
 
 -- the numbers, with the covers among some bytes, make the record of the entry at the front of t
 pub record Told (file t covers : List ℕ) (r : Numbers) : Type 0 where
-  pub what : r.outcome ≡ outcome (verdictIn file t)
+  pub what : r.outcome ≡ outcome (verdict_in file t)
   pub within : CoversIn r covers
-  pub made : recordOf r covers ≡ recorded (entryIn file t) (verdictIn file t)
+  pub made : record_of r covers ≡ recorded (entry_in file t) (verdict_in file t)

@@ -4,52 +4,52 @@ use Rattle.std.specs.Prelude.{ℕ, ◌+◌, ◌≤◌, ◌<◌, ◌≡◌, cond,
 use mathlib.Core.List.{List, flat_map}
 use Rattle.fields.specs.Field.{fields, nothing}
 use Rattle.model.specs.Model.{entries}
-use Rattle.questions.specs.Questions.{passes, fails, askFile}
+use Rattle.questions.specs.Questions.{passes, fails, ask_file}
 use Rattle.claim.specs.Verdict.{refused}
 use Rattle.output.specs.Output.{Written}
 use Rattle.contract.specs.Answer.{outcome}
-use Rattle.contract.specs.Records.{recorded, verdictOn, recordOn, below, records, largest, outcomeOfAll}
-use Rattle.contract.specs.Coded.{recordOf, entryIn, verdictIn}
+use Rattle.contract.specs.Records.{recorded, verdict_on, record_on, below, records, largest, outcome_of_all}
+use Rattle.contract.specs.Coded.{record_of, entry_in, verdict_in}
 use Rattle.contract.specs.declared.numbers.Numbers.{Numbers}
 use Rattle.contract.specs.declared.records.Recorded.{Recorded}
 
 -- bytes for the records of every file: 5 and the covers for each of 64 entries
-abbrev pub recordsEnough : ℕ
-recordsEnough = 12608
+abbrev pub records_enough : ℕ
+records_enough = 12608
 
 -- how many records there are
-unfoldable pub recordCount : List ℕ → ℕ
-recordCount file = elim (askFile file) [ fails number place ↦ 1 | passes ↦ length (entries (fields file)) ]
+unfoldable pub record_count : List ℕ → ℕ
+record_count file = elim (ask_file file) [ fails number place ↦ 1 | passes ↦ length (entries (fields file)) ]
 
 -- the records
-unfoldable pub eachRecord : List ℕ → List ℕ
-eachRecord file =
-    elim (askFile file) [
+unfoldable pub each_record : List ℕ → List ℕ
+each_record file =
+    elim (ask_file file) [
       | fails number place ↦ recorded nothing (refused number place)
-      | passes ↦ flat_map (recordOn file) (below (length (entries (fields file))))
+      | passes ↦ flat_map (record_on file) (below (length (entries (fields file))))
     ]
 
 -- what an entry is
-abbrev pub outcomeOn : List ℕ → ℕ → ℕ
-outcomeOn file n = outcome (verdictOn file n)
+abbrev pub outcome_on : List ℕ → ℕ → ℕ
+outcome_on file n = outcome (verdict_on file n)
 
 -- the largest of what they are; 0 where there are none
-unfoldable pub largestOfEach : List ℕ → ℕ
-largestOfEach file =
-    elim (askFile file) [
+unfoldable pub largest_of_each : List ℕ → ℕ
+largest_of_each file =
+    elim (ask_file file) [
       | fails number place ↦ 2
-      | passes ↦ largest (outcomeOn file) (length (entries (fields file)))
+      | passes ↦ largest (outcome_on file) (length (entries (fields file)))
     ]
 
 -- those are written
 pub record EachRecorded (file before after : List ℕ) (r : Recorded) : Type 0 where
-  pub what : r.outcome ≡ largestOfEach file
-  pub many : r.count ≡ recordCount file
-  pub bytes : Written (eachRecord file) before 0 after r.end
+  pub what : r.outcome ≡ largest_of_each file
+  pub many : r.count ≡ record_count file
+  pub bytes : Written (each_record file) before 0 after r.end
 
 -- the records of all entries, with that of question 9 where there is none, are written
 pub record AllRecorded (file before after : List ℕ) (r : Recorded) : Type 0 where
-  pub what : r.outcome ≡ outcomeOfAll file
+  pub what : r.outcome ≡ outcome_of_all file
   pub bytes : Written (records file) before 0 after r.end
 
 -- the record of a refusal is written, and is the only one
@@ -71,10 +71,10 @@ larger a b = cond (ltb a b) b a
 pub record Appended (x : Numbers) (covers before after : List ℕ) (earlier r : Recorded) : Type 0 where
   pub what : r.outcome ≡ larger earlier.outcome x.outcome
   pub many : r.count ≡ earlier.count + 1
-  pub bytes : Written (recordOf x covers) before earlier.end after r.end
+  pub bytes : Written (record_of x covers) before earlier.end after r.end
 
 -- that of the entry at the front of t
 pub record OneMore (file t before after : List ℕ) (earlier r : Recorded) : Type 0 where
-  pub what : r.outcome ≡ larger earlier.outcome (outcome (verdictIn file t))
+  pub what : r.outcome ≡ larger earlier.outcome (outcome (verdict_in file t))
   pub many : r.count ≡ earlier.count + 1
-  pub bytes : Written (recorded (entryIn file t) (verdictIn file t)) before earlier.end after r.end
+  pub bytes : Written (recorded (entry_in file t) (verdict_in file t)) before earlier.end after r.end

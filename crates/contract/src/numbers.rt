@@ -1,6 +1,6 @@
 // A verdict as numbers.
 ghost use Rattle.std.specs.Prelude.{◌≡◌};
-ghost use Rattle.matching.specs.Coded.{reasonOf};
+ghost use Rattle.matching.specs.Coded.{reason_of};
 ghost use Rattle.claim.specs.Verdict.{reason};
 ghost use Rattle.contract.specs.Coded.{Numbered};
 
@@ -18,7 +18,7 @@ pub struct Numbers {
 
 // The number of a reason.
 fn number_of(why: Reason) -> usize
-    ensures { result ≡ reason (reasonOf why) }
+    ensures { result ≡ reason (reason_of why) }
 {
     match why {
         Reason::SplitWithoutAmount => 1,

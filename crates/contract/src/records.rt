@@ -1,10 +1,10 @@
 // The records of a file, one behind the other.
 ghost use Rattle.std.specs.Prelude.{◌≡◌, cond, ◌*◌, ◌≤◌, ltb, length};
-ghost use Rattle.questions.specs.Questions.{passes, askFile};
+ghost use Rattle.questions.specs.Questions.{passes, ask_file};
 ghost use Rattle.reserves.specs.Holding.{Facts};
 ghost use Rattle.output.specs.Output.{Written};
-ghost use Rattle.contract.specs.Records.{twoBytes, coversEnough};
-ghost use Rattle.contract.specs.Coded.{head_of, recordOf, CoversIn, Askable, Told};
+ghost use Rattle.contract.specs.Records.{two_bytes, covers_enough};
+ghost use Rattle.contract.specs.Coded.{head_of, record_of, CoversIn, Askable, Told};
 ghost use Rattle.contract.specs.Each.{EachRecorded, AllRecorded, RefusalRecorded, Extensible, Appended, OneMore};
 
 use super::numbers::{Numbers, numbers_of};
@@ -31,7 +31,7 @@ pub struct Recorded {
 // Writes a number in two bytes, most significant first.
 fn write_number(number: usize, out: &mut [u8], n: usize) -> usize
     requires { n ≤ length out.old }
-    ensures { Written (twoBytes number) out.old n out.new result }
+    ensures { Written (two_bytes number) out.old n out.new result }
 {
     let m = write_byte((number / 256 % 256) as u8, out, n);
     write_byte((number % 256) as u8, out, m)
@@ -51,7 +51,7 @@ fn write_numbers(numbers: Numbers, out: &mut [u8], n: usize) -> usize
 fn write_record(numbers: Numbers, covers: &[u8], out: &mut [u8], n: usize) -> usize
     requires covers { CoversIn numbers covers.now }
     requires room { n ≤ length out.old }
-    ensures { Written (recordOf numbers covers.now) out.old n out.new result }
+    ensures { Written (record_of numbers covers.now) out.old n out.new result }
 {
     let m = write_numbers(numbers, out, n);
     if numbers.outcome != 0 {
@@ -93,7 +93,7 @@ fn entry_numbers(
     covers: &mut [u8],
 ) -> Numbers
     requires askable { Askable file.now table.old facts.old scratch.old }
-    requires covers { length covers.old ≡ coversEnough }
+    requires covers { length covers.old ≡ covers_enough }
     ensures told { Told file.now t.now covers.new result }
     ensures facts { Facts file.now facts.new }
 {
@@ -123,7 +123,7 @@ fn one_more(
 
 // Writes the records of all entries of a file that passes questions 1 to 8. What the verdicts share is worked out once.
 fn entry_records(file: &[u8], table: &mut [u16], scratch: &mut [u16], out: &mut [u8]) -> Recorded
-    requires passed { askFile file.now ≡ passes }
+    requires passed { ask_file file.now ≡ passes }
     requires table { length file.now ≤ 3 * length table.old }
     requires scratch { length file.now ≤ 3 * length scratch.old }
     ensures { EachRecorded file.now out.old out.new result }

@@ -3,7 +3,7 @@ use Rattle.std.proofs.Common.{ℕ, ◌+◌, ◌-◌, ◌^◌, ◌≤◌, ◌<◌
 use borrow.Author.Tests.{lt-leb}
 use Rattle.laws.proofs.Lists.{no-elements}
 use Rattle.fields.specs.Field.{tag_of, length_of, whole, content, after}
-use Rattle.cursor.specs.Cursor.{headAt, textAt, part_at, cursorAt}
+use Rattle.cursor.specs.Cursor.{head_at, text_at, part_at, cursor_at}
 use Rattle.cursor.specs.declared.Cursor.{Cursor}
 use Rattle.cursor.specs.declared.Head.{Head}
 use Rattle.cursor.specs.declared.Head.TheVariants as head
@@ -26,19 +26,19 @@ same_test n l h = go (leb n (l - 3)) refl
 
 -- what the code makes is what the definition says
 module _ (s x : List ℕ) (at : ℕ) (e : x ≡ drop at s) where
-  pub head-found : 3 ≤ length x → (t l : ℕ) → t ≡ tag_of x → l ≡ length_of x → head.Found t l (cursorAt (at + 3)) ≡ headAt s at
+  pub head-found : 3 ≤ length x → (t l : ℕ) → t ≡ tag_of x → l ≡ length_of x → head.Found t l (cursor_at (at + 3)) ≡ head_at s at
   head-found h t l f g = rw (← e, le-leb 3 (length x) h, f, g)
 
-  pub head-cut : length x < 3 → 1 ≤ length x → head.Cut ≡ headAt s at
+  pub head-cut : length x < 3 → 1 ≤ length x → head.Cut ≡ head_at s at
   head-cut h k = rw (← e, lt-leb 3 (length x) h, le-leb 1 (length x) k)
 
-  pub head-end : length x < 3 → length x < 1 → head.End ≡ headAt s at
+  pub head-end : length x < 3 → length x < 1 → head.End ≡ head_at s at
   head-end h k = rw (← e, lt-leb 3 (length x) h, lt-leb 1 (length x) k)
 
-  pub text-found : (n : ℕ) → n ≤ length x → text.Found at (at + n) (cursorAt (at + n)) ≡ textAt s at n
+  pub text-found : (n : ℕ) → n ≤ length x → text.Found at (at + n) (cursor_at (at + n)) ≡ text_at s at n
   text-found n h = rw (← e, le-leb n (length x) h)
 
-  pub text-cut : (n : ℕ) → length x < n → text.Cut ≡ textAt s at n
+  pub text-cut : (n : ℕ) → length x < n → text.Cut ≡ text_at s at n
   text-cut n h = rw (← e, lt-leb n (length x) h)
 
 -- an answer tells the tests that decided it, whether all is there and whether anything is, and what was found
@@ -94,14 +94,14 @@ module _ (s : List ℕ) (at : ℕ) where
   no-head : leb 3 (length (drop at s)) ≡ false → whole (drop at s) ≡ false
   no-head h = lt-leb (3 + length_of (drop at s)) (length (drop at s)) (omega (arith, leb-false 3 (length (drop at s)) h))
 
-  head-is : (r : Head) → r ≡ headAt s at → (t l : ℕ) (n : Cursor) → r ≡ head.Found t l n →
-      (leb 3 (length (drop at s)) ≡ true) × (t ≡ tag_of (drop at s)) × (l ≡ length_of (drop at s)) × (n ≡ cursorAt (at + 3))
+  head-is : (r : Head) → r ≡ head_at s at → (t l : ℕ) (n : Cursor) → r ≡ head.Found t l n →
+      (leb 3 (length (drop at s)) ≡ true) × (t ≡ tag_of (drop at s)) × (l ≡ length_of (drop at s)) × (n ≡ cursor_at (at + 3))
   head-is r e t l n f = found-head (leb 3 (length (drop at s))) (leb 1 (length (drop at s))) t _ l _ n _ (sym f ∙ e)
 
   -- the answers of `part`, by those of `head` and `text`
-  module _ (r : Head) (e : r ≡ headAt s at) where
-    module _ (t l : ℕ) (n : Cursor) (f : r ≡ head.Found t l n) (q : Text) (g : q ≡ textAt s n.at l) where
-      by_whole : q ≡ cond (whole (drop at s)) (text.Found (at + 3) (at + 3 + length_of (drop at s)) (cursorAt (at + 3 + length_of (drop at s)))) text.Cut
+  module _ (r : Head) (e : r ≡ head_at s at) where
+    module _ (t l : ℕ) (n : Cursor) (f : r ≡ head.Found t l n) (q : Text) (g : q ≡ text_at s n.at l) where
+      by_whole : q ≡ cond (whole (drop at s)) (text.Found (at + 3) (at + 3 + length_of (drop at s)) (cursor_at (at + 3 + length_of (drop at s)))) text.Cut
       by_whole = let (h, x, y, z) = head-is r e t l n f in g ∙ rw (z, y, text-left h)
 
       pub part-found : (a b : ℕ) (m : Cursor) → q ≡ text.Found a b m → part.Found t a b m ≡ part_at s at

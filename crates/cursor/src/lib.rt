@@ -1,6 +1,6 @@
 // A reading place in a part of the file: a small state by value, which each reading step hands back moved.
 ghost use Rattle.std.specs.Prelude.{◌≡◌};
-ghost use Rattle.cursor.specs.Cursor.{headAt, textAt, part_at};
+ghost use Rattle.cursor.specs.Cursor.{head_at, text_at, part_at};
 
 use fields::bytes::skip;
 use fields::front::{front_tag, length_of};
@@ -48,7 +48,7 @@ pub enum Part {
 
 impl Cursor {
     pub fn head(self, s: &[u8]) -> Head
-        ensures { result ≡ headAt s.now self.at }
+        ensures { result ≡ head_at s.now self.at }
     {
         let at = self.at;
         let t = skip(s, at);
@@ -66,7 +66,7 @@ impl Cursor {
     }
 
     pub fn text(self, s: &[u8], length: usize) -> Text
-        ensures { result ≡ textAt s.now self.at length }
+        ensures { result ≡ text_at s.now self.at length }
     {
         let at = self.at;
         if length <= skip(s, at).len() {

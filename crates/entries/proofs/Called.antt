@@ -11,34 +11,34 @@ use Rattle.fields.specs.Field.{Field, Placed, nothing, front, tag}
 use Rattle.fields.specs.Table.{Listed, fields_at}
 use Rattle.fields.proofs.Tables.{listed-front}
 use Rattle.fields.proofs.Inside.{Stands}
-use Rattle.walking.specs.Walking.{bodyExprs, withoutPlaces, exprs, isDebit, isPayout, debits, payouts}
-use Rattle.walking.specs.Table.{placed_at, ofTag, places_of}
+use Rattle.walking.specs.Walking.{body_exprs, without_places, exprs, is_debit, is_payout, debits, payouts}
+use Rattle.walking.specs.Table.{placed_at, of_tag, places_of}
 use Rattle.walking.proofs.Callers.{body-places, body-stands, body-anywhere, read_back}
 use Rattle.walking.proofs.Calls.{is_call, payout-call, debit-call}
-use Rattle.entries.specs.Calls.{passesAt, placesWhere, bodyWhere}
+use Rattle.entries.specs.Calls.{passes_at, places_where, body_where}
 use Rattle.entries.specs.Entered.{nowhere, CallsOf}
 
 -- a place modulo 65,536 is the place, in a short file
 module _ (file : List ℕ) (test : Field → Bool) where
   kept-places : (ps : List Placed) → Every (Stands file) ps →
-      filter (passesAt file test) (map (λ p. p.place) ps) ≡ map (λ p. p.place) (filter (λ p. test p.this) ps)
-  unfolding filter passesAt
+      filter (passes_at file test) (map (λ p. p.place) ps) ≡ map (λ p. p.place) (filter (λ p. test p.this) ps)
+  unfolding filter passes_at
   kept-places [] e = refl
   kept-places (p ∷ ps) e = rw e.0 (go (test p.this) (kept-places ps e.1))
     where
-      go : (k : Bool) → filter (passesAt file test) (map (λ q. q.place) ps) ≡ map (λ q. q.place) (filter (λ q. test q.this) ps) →
-          cond k (p.place ∷ filter (passesAt file test) (map (λ q. q.place) ps)) (filter (passesAt file test) (map (λ q. q.place) ps))
+      go : (k : Bool) → filter (passes_at file test) (map (λ q. q.place) ps) ≡ map (λ q. q.place) (filter (λ q. test q.this) ps) →
+          cond k (p.place ∷ filter (passes_at file test) (map (λ q. q.place) ps)) (filter (passes_at file test) (map (λ q. q.place) ps))
           ≡ map (λ q. q.place) (cond k (p ∷ filter (λ q. test q.this) ps) (filter (λ q. test q.this) ps))
       go true f = rw f
       go false f = f
 
   abbrev small : List Placed → List ℕ
-  small ps = filter (passesAt file test) (map (λ p. p.place % 65536) ps)
+  small ps = filter (passes_at file test) (map (λ p. p.place % 65536) ps)
 
   small-kept : (ps : List Placed) → map (λ k. k % 65536) (small ps) ≡ small ps
   unfolding filter
   small-kept [] = refl
-  small-kept (p ∷ ps) = go (passesAt file test (p.place % 65536)) (small-kept ps)
+  small-kept (p ∷ ps) = go (passes_at file test (p.place % 65536)) (small-kept ps)
     where
       go : (k : Bool) → map (λ j. j % 65536) (small ps) ≡ small ps →
           map (λ j. j % 65536) (cond k (p.place % 65536 ∷ small ps) (small ps)) ≡ cond k (p.place % 65536 ∷ small ps) (small ps)
@@ -47,34 +47,34 @@ module _ (file : List ℕ) (test : Field → Bool) where
 
   -- what passes the test is a call, so that all are among the calls
   pub places-where : ((f : Field) → test f ≡ true → is_call f ≡ true) → (n : ℕ) → length file < 65536 →
-      placesWhere file test (places_of Call (bodyExprs (placed_at file n))) ≡ map (λ p. p.place) (bodyWhere test (placed_at file n))
-  unfolding placesWhere
+      places_where file test (places_of Call (body_exprs (placed_at file n))) ≡ map (λ p. p.place) (body_where test (placed_at file n))
+  unfolding places_where
   places-where called n h =
-      let ps = bodyExprs (placed_at file n) in
-      small-kept (ofTag Call ps)
+      let ps = body_exprs (placed_at file n) in
+      small-kept (of_tag Call ps)
       ∙ rw (body-places file n Call h)
-      (kept-places (ofTag Call ps) (every-filter (Stands file) (λ p. eqb (tag p.this) Call) ps (body-stands file (placed_at file n) refl))
+      (kept-places (of_tag Call ps) (every-filter (Stands file) (λ p. eqb (tag p.this) Call) ps (body-stands file (placed_at file n) refl))
       ∙ ap (λ l. map (λ p. p.place) l) (filter-first (λ p. test p.this) (λ p. eqb (tag p.this) Call) (λ p k. called p.this k) ps))
 
 -- without their places they are the entry's payouts, or its debits
-fields-where : (test : Field → Bool) (ps : List Placed) → withoutPlaces (filter (λ p. test p.this) ps) ≡ filter test (withoutPlaces ps)
+fields-where : (test : Field → Bool) (ps : List Placed) → without_places (filter (λ p. test p.this) ps) ≡ filter test (without_places ps)
 unfolding filter
 fields-where test [] = refl
 fields-where test (p ∷ ps) = go (test p.this) (fields-where test ps)
   where
-    go : (k : Bool) → withoutPlaces (filter (λ q. test q.this) ps) ≡ filter test (withoutPlaces ps) →
-        withoutPlaces (cond k (p ∷ filter (λ q. test q.this) ps) (filter (λ q. test q.this) ps))
-        ≡ cond k (p.this ∷ filter test (withoutPlaces ps)) (filter test (withoutPlaces ps))
+    go : (k : Bool) → without_places (filter (λ q. test q.this) ps) ≡ filter test (without_places ps) →
+        without_places (cond k (p ∷ filter (λ q. test q.this) ps) (filter (λ q. test q.this) ps))
+        ≡ cond k (p.this ∷ filter test (without_places ps)) (filter test (without_places ps))
     go true e = rw e
     go false e = e
 
-pub payouts-where : (entry : Placed) → withoutPlaces (bodyWhere isPayout entry) ≡ payouts entry.this
+pub payouts-where : (entry : Placed) → without_places (body_where is_payout entry) ≡ payouts entry.this
 unfolding payouts
-payouts-where entry = fields-where isPayout (bodyExprs entry) ∙ rw (body-anywhere entry)
+payouts-where entry = fields-where is_payout (body_exprs entry) ∙ rw (body-anywhere entry)
 
-pub debits-where : (entry : Placed) → withoutPlaces (bodyWhere isDebit entry) ≡ debits entry.this
+pub debits-where : (entry : Placed) → without_places (body_where is_debit entry) ≡ debits entry.this
 unfolding debits
-debits-where entry = fields-where isDebit (bodyExprs entry) ∙ rw (body-anywhere entry)
+debits-where entry = fields-where is_debit (body_exprs entry) ∙ rw (body-anywhere entry)
 
 -- What was listed stands in the table, as far as it has room
 
@@ -84,14 +84,14 @@ listed_at ks t u r i p h g = rw p.kept (ap (λ j. get_or (sets t 0 ks) j 0) (sym
 -- A table of those of the entry at a place, as far as it has room
 
 module _ (file : List ℕ) (place : ℕ) (calls : List ℕ) (c : CallsOf file place calls) (test : Field → Bool)
-    (called : (f : Field) → test f ≡ true → is_call f ≡ true) (zeros table : List ℕ) (r : ℕ) (l : Listed (placesWhere file test calls) zeros 0 table r) where
+    (called : (f : Field) → test f ≡ true → is_call f ≡ true) (zeros table : List ℕ) (r : ℕ) (l : Listed (places_where file test calls) zeros 0 table r) where
   abbrev those : List Placed
-  those = bodyWhere test (placed_at file place)
+  those = body_where test (placed_at file place)
 
   places-listed : Listed (map (λ p. p.place) those) zeros 0 table r
   places-listed = rw (c.listed, places-where file test called place (omega (arith, c.small))) at l
 
-  pub where-counted : r ≡ length (withoutPlaces those)
+  pub where-counted : r ≡ length (without_places those)
   where-counted =
       places-listed.count ∙ zero-add (length (map (λ p. p.place) those)) ∙ length-map those (λ p. p.place) ∙ sym (length-map those (λ p. p.this))
 
@@ -102,8 +102,8 @@ module _ (file : List ℕ) (place : ℕ) (calls : List ℕ) (c : CallsOf file pl
       ∙ get_or-map (λ p. p.place) those i nowhere
 
   -- where there is room for all, the file gives them back
-  pub where-read : r ≤ length zeros → fields_at file (take r table) ≡ withoutPlaces those
+  pub where-read : r ≤ length zeros → fields_at file (take r table) ≡ without_places those
   unfolding fields_at
   where-read h =
       rw (listed-front (map (λ p. p.place) those) zeros table r places-listed h)
-      (read_back file those (every-filter (Stands file) (λ p. test p.this) (bodyExprs (placed_at file place)) (body-stands file (placed_at file place) refl)))
+      (read_back file those (every-filter (Stands file) (λ p. test p.this) (body_exprs (placed_at file place)) (body-stands file (placed_at file place) refl)))

@@ -10,12 +10,12 @@ use Rattle.fields.specs.Table.{Listed, fields_at}
 use Rattle.fields.proofs.Reading.{front-none}
 use Rattle.fields.proofs.Places.{front-size}
 use Rattle.fields.proofs.Tables.{listed-front}
-use Rattle.walking.specs.Walking.{bodyExprs, isPayout, isDebit, assetParams, debits, payouts}
+use Rattle.walking.specs.Walking.{body_exprs, is_payout, is_debit, asset_params, debits, payouts}
 use Rattle.walking.specs.Table.{placed_at, places_of}
 use Rattle.walking.proofs.Callers.{body-few}
 use Rattle.walking.proofs.Calls.{payout-call, debit-call}
 use Rattle.tokens.specs.Numbers.{Standing}
-use Rattle.entries.specs.Calls.{passesAt, placesWhere, assetPlaces}
+use Rattle.entries.specs.Calls.{passes_at, places_where, asset_places}
 use Rattle.entries.specs.Entered.{entry_of, Lent, CallsOf, PaidOf, BackedOf, Read, Entered}
 use Rattle.entries.specs.declared.entry.Entry.{Entry}
 use Rattle.entries.proofs.Called.{where-counted, where-place, where-read, payouts-where, debits-where}
@@ -23,24 +23,24 @@ use Rattle.entries.proofs.Naming.{name_at, names-read, front-stays, name-there}
 
 -- The calls: each takes three bytes at least, so that there is room for all
 
-few-calls : (file : List ℕ) (n : ℕ) → 3 * length (places_of Call (bodyExprs (placed_at file n))) ≤ length file
+few-calls : (file : List ℕ) (n : ℕ) → 3 * length (places_of Call (body_exprs (placed_at file n))) ≤ length file
 unfolding size sizes
 few-calls file n = go (whole (drop n file)) refl
   where
-    few : 3 + 3 * length (places_of Call (bodyExprs (placed_at file n))) ≤ size (front (drop n file))
+    few : 3 + 3 * length (places_of Call (body_exprs (placed_at file n))) ≤ size (front (drop n file))
     few = body-few (placed_at file n) Call
 
-    go : (w : Bool) → whole (drop n file) ≡ w → 3 * length (places_of Call (bodyExprs (placed_at file n))) ≤ length file
+    go : (w : Bool) → whole (drop n file) ≡ w → 3 * length (places_of Call (body_exprs (placed_at file n))) ≤ length file
     go true w = omega (arith, few, front-size (drop n file) w, leb-true (3 + length_of (drop n file)) (length (drop n file)) w, length-drop n file)
     go false w = omega (arith, few, ap size (front-none (drop n file) w))
 
 module _ (file : List ℕ) (place : ℕ) (old : List ℕ) (lent : Lent file place old) (table : List ℕ) (count : ℕ)
-    (l : Listed (places_of Call (bodyExprs (placed_at file place))) old 0 table count) where
+    (l : Listed (places_of Call (body_exprs (placed_at file place))) old 0 table count) where
   few-listed : count ≤ length old
   few-listed = omega (arith, l.count, few-calls file place, lent.room)
 
   pub calls-fit : count ≤ length table
-  calls-fit = rw (l.kept, length-sets old 0 (places_of Call (bodyExprs (placed_at file place)))) few-listed
+  calls-fit = rw (l.kept, length-sets old 0 (places_of Call (body_exprs (placed_at file place)))) few-listed
 
   pub calls-part : count ≡ length (take count table)
   calls-part = sym (length-take-le count table calls-fit)
@@ -50,62 +50,62 @@ module _ (file : List ℕ) (place : ℕ) (old : List ℕ) (lent : Lent file plac
       record {
         small = lent.small;
         inside = lent.inside;
-        listed = listed-front (places_of Call (bodyExprs (placed_at file place))) old table count l few-listed;
+        listed = listed-front (places_of Call (body_exprs (placed_at file place))) old table count l few-listed;
       }
 
 module _ (file : List ℕ) (place : ℕ) (calls : List ℕ) (c : CallsOf file place calls) where
-  pub places-few : (test : Field → Bool) (zeros table : List ℕ) (r : ℕ) → Listed (placesWhere file test calls) zeros 0 table r → 3 * r ≤ length file
-  unfolding placesWhere
+  pub places-few : (test : Field → Bool) (zeros table : List ℕ) (r : ℕ) → Listed (places_where file test calls) zeros 0 table r → 3 * r ≤ length file
+  unfolding places_where
   places-few test zeros table r l =
       omega (
         arith,
         l.count,
-        length-map (filter (passesAt file test) calls) (λ k. k % 65536),
-        filter-few (passesAt file test) calls,
+        length-map (filter (passes_at file test) calls) (λ k. k % 65536),
+        filter-few (passes_at file test) calls,
         few-calls file place,
         ap length c.listed,
       )
 
   -- The payouts
 
-  pub payouts-read : (table : List ℕ) (r : ℕ) → Listed (placesWhere file isPayout calls) (replicate 65 0) 0 table r →
+  pub payouts-read : (table : List ℕ) (r : ℕ) → Listed (places_where file is_payout calls) (replicate 65 0) 0 table r →
       PaidOf file place (record { count = r; places = table })
   payouts-read table r l =
       let wide : length (replicate {A = ℕ} 65 0) ≡ 65 = length-replicate {A = ℕ} 65 0 in
       record {
-        many = where-counted file place calls c isPayout payout-call (replicate 65 0) table r l ∙ ap length (payouts-where (placed_at file place));
-        last = λ h. where-place file place calls c isPayout payout-call (replicate 65 0) table r l 64 (omega (arith, wide)) h;
-        paid = λ h. where-read file place calls c isPayout payout-call (replicate 65 0) table r l (omega (arith, wide, h)) ∙ payouts-where (placed_at file place);
+        many = where-counted file place calls c is_payout payout-call (replicate 65 0) table r l ∙ ap length (payouts-where (placed_at file place));
+        last = λ h. where-place file place calls c is_payout payout-call (replicate 65 0) table r l 64 (omega (arith, wide)) h;
+        paid = λ h. where-read file place calls c is_payout payout-call (replicate 65 0) table r l (omega (arith, wide, h)) ∙ payouts-where (placed_at file place);
       }
 
   -- The backings
 
-  module _ (table : List ℕ) (r : ℕ) (l : Listed (placesWhere file isDebit calls) (replicate 64 0) 0 table r) where
+  module _ (table : List ℕ) (r : ℕ) (l : Listed (places_where file is_debit calls) (replicate 64 0) 0 table r) where
     pub debits-standing : Standing file place r
-    debits-standing = record { short = c.small; within = c.inside; few = omega (arith, places-few isDebit (replicate 64 0) table r l, c.small) }
+    debits-standing = record { short = c.small; within = c.inside; few = omega (arith, places-few is_debit (replicate 64 0) table r l, c.small) }
 
-    module _ (last : List ℕ) (k : ℕ) (q : Listed (assetPlaces (place + 3) (parts (front (drop place file)))) table r last k) where
+    module _ (last : List ℕ) (k : ℕ) (q : Listed (asset_places (place + 3) (parts (front (drop place file)))) table r last k) where
       -- each asset parameter has one place
-      parameters-counted : k ≡ r + length (assetParams (entry_of file place))
+      parameters-counted : k ≡ r + length (asset_params (entry_of file place))
       parameters-counted =
           q.count
-          ∙ ap (λ n. r + n) (sym (length-map (assetPlaces (place + 3) (parts (front (drop place file)))) (name_at file)) ∙ ap length (names-read file place))
+          ∙ ap (λ n. r + n) (sym (length-map (asset_places (place + 3) (parts (front (drop place file)))) (name_at file)) ∙ ap length (names-read file place))
 
       wide : length (replicate {A = ℕ} 64 0) ≡ 64
       wide = length-replicate {A = ℕ} 64 0
 
-      room : k ≤ 64 → r + length (assetParams (entry_of file place)) ≤ length table
+      room : k ≤ 64 → r + length (asset_params (entry_of file place)) ≤ length table
       room h =
-          let w : length table ≡ 64 = rw l.kept (length-sets (replicate 64 0) 0 (placesWhere file isDebit calls) ∙ wide) in
+          let w : length table ≡ 64 = rw l.kept (length-sets (replicate 64 0) 0 (places_where file is_debit calls) ∙ wide) in
           omega (arith, w, h, parameters-counted)
 
       pub backings-read : BackedOf file place (record { debits = r; total = k; places = last })
       backings-read =
           record {
-            counted = where-counted file place calls c isDebit debit-call (replicate 64 0) table r l ∙ ap length (debits-where (placed_at file place));
+            counted = where-counted file place calls c is_debit debit-call (replicate 64 0) table r l ∙ ap length (debits-where (placed_at file place));
             all = parameters-counted;
             listed = λ h. rw (front-stays file place table r last k q (room h))
-                (where-read file place calls c isDebit debit-call (replicate 64 0) table r l (omega (arith, wide, h, parameters-counted)) ∙ debits-where (placed_at file place));
+                (where-read file place calls c is_debit debit-call (replicate 64 0) table r l (omega (arith, wide, h, parameters-counted)) ∙ debits-where (placed_at file place));
             named = λ h i g. name-there file place table r last k q (room h) i (omega (arith, g, parameters-counted));
           }
 

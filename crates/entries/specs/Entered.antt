@@ -5,9 +5,9 @@ use Rattle.tags.specs.Tag.{Call}
 use Rattle.fields.specs.Field.{Field, Placed, front, nothing}
 use Rattle.fields.specs.Table.{fields_at}
 use Rattle.model.specs.Model.{name_of}
-use Rattle.walking.specs.Walking.{isPayout, bodyExprs, assetParams, debits, payouts}
+use Rattle.walking.specs.Walking.{is_payout, body_exprs, asset_params, debits, payouts}
 use Rattle.walking.specs.Table.{placed_at, places_of}
-use Rattle.entries.specs.Calls.{bodyWhere}
+use Rattle.entries.specs.Calls.{body_where}
 use Rattle.entries.specs.declared.entry.Entry.{Entry}
 use Rattle.entries.specs.declared.entry.Paid.{Paid}
 use Rattle.entries.specs.declared.entry.Backed.{Backed}
@@ -30,34 +30,34 @@ pub record Lent (file : List ℕ) (place : ℕ) (table : List ℕ) : Type 0 wher
 pub record CallsOf (file : List ℕ) (place : ℕ) (calls : List ℕ) : Type 0 where
   pub small : length file ≤ 32768
   pub inside : place ≤ length file
-  pub listed : calls ≡ places_of Call (bodyExprs (placed_at file place))
+  pub listed : calls ≡ places_of Call (body_exprs (placed_at file place))
 
 -- the payouts of the entry at a place, in walk order: how many; the place of the 65th; the places of all, up to 64
 pub record PaidOf (file : List ℕ) (place : ℕ) (p : Paid) : Type 0 where
   pub many : p.count ≡ length (payouts (entry_of file place))
-  pub last : 64 < p.count → get_or p.places 64 0 ≡ (get_or (bodyWhere isPayout (placed_at file place)) 64 nowhere).place
+  pub last : 64 < p.count → get_or p.places 64 0 ≡ (get_or (body_where is_payout (placed_at file place)) 64 nowhere).place
   pub paid : p.count ≤ 64 → fields_at file (take p.count p.places) ≡ payouts (entry_of file place)
 
 -- its backings: how many are caller debits, and how many there are; the places of all, up to 64, debits in walk order and
 -- then asset parameters
 pub record BackedOf (file : List ℕ) (place : ℕ) (b : Backed) : Type 0 where
   pub counted : b.debits ≡ length (debits (entry_of file place))
-  pub all : b.total ≡ b.debits + length (assetParams (entry_of file place))
+  pub all : b.total ≡ b.debits + length (asset_params (entry_of file place))
   pub listed : b.total ≤ 64 → fields_at file (take b.debits b.places) ≡ debits (entry_of file place)
   pub named : b.total ≤ 64 → (i : ℕ) → i < b.total → b.debits ≤ i →
-      name_of (front (drop (get_or b.places i 0) file)) ≡ get_or (assetParams (entry_of file place)) (i - b.debits) []
+      name_of (front (drop (get_or b.places i 0) file)) ≡ get_or (asset_params (entry_of file place)) (i - b.debits) []
 
 -- an entry as it is read
 pub record Read (file : List ℕ) (e : Entry) : Type 0 where
   pub small : length file ≤ 32768
   pub many : e.payouts ≡ length (payouts (entry_of file e.place))
-  pub last : 64 < e.payouts → get_or e.paid 64 0 ≡ (get_or (bodyWhere isPayout (placed_at file e.place)) 64 nowhere).place
+  pub last : 64 < e.payouts → get_or e.paid 64 0 ≡ (get_or (body_where is_payout (placed_at file e.place)) 64 nowhere).place
   pub paid : e.payouts ≤ 64 → fields_at file (take e.payouts e.paid) ≡ payouts (entry_of file e.place)
   pub counted : e.debits ≡ length (debits (entry_of file e.place))
-  pub all : e.total ≡ e.debits + length (assetParams (entry_of file e.place))
+  pub all : e.total ≡ e.debits + length (asset_params (entry_of file e.place))
   pub listed : e.total ≤ 64 → fields_at file (take e.debits e.backed) ≡ debits (entry_of file e.place)
   pub named : e.total ≤ 64 → (i : ℕ) → i < e.total → e.debits ≤ i →
-      name_of (front (drop (get_or e.backed i 0) file)) ≡ get_or (assetParams (entry_of file e.place)) (i - e.debits) []
+      name_of (front (drop (get_or e.backed i 0) file)) ≡ get_or (asset_params (entry_of file e.place)) (i - e.debits) []
 
 -- an entry past questions 10 and 11: all its payouts and backings found room
 pub record Entered (file : List ℕ) (e : Entry) : Type 0 where
@@ -66,8 +66,8 @@ pub record Entered (file : List ℕ) (e : Entry) : Type 0 where
   pub limit : e.payouts ≤ 64
   pub paid : fields_at file (take e.payouts e.paid) ≡ payouts (entry_of file e.place)
   pub counted : e.debits ≡ length (debits (entry_of file e.place))
-  pub all : e.total ≡ e.debits + length (assetParams (entry_of file e.place))
+  pub all : e.total ≡ e.debits + length (asset_params (entry_of file e.place))
   pub few : e.total ≤ 64
   pub listed : fields_at file (take e.debits e.backed) ≡ debits (entry_of file e.place)
   pub named : (i : ℕ) → i < e.total → e.debits ≤ i →
-      name_of (front (drop (get_or e.backed i 0) file)) ≡ get_or (assetParams (entry_of file e.place)) (i - e.debits) []
+      name_of (front (drop (get_or e.backed i 0) file)) ≡ get_or (asset_params (entry_of file e.place)) (i - e.debits) []

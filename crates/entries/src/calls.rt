@@ -4,9 +4,9 @@
 ghost use Rattle.std.specs.Prelude.{◌+◌, drop};
 ghost use Rattle.fields.specs.Field.{front, parts};
 ghost use Rattle.fields.specs.Table.{Listed};
-ghost use Rattle.walking.specs.Walking.{isPayout, isDebit};
+ghost use Rattle.walking.specs.Walking.{is_payout, is_debit};
 ghost use Rattle.tokens.specs.Numbers.{Standing};
-ghost use Rattle.entries.specs.Calls.{placesWhere, assetPlaces};
+ghost use Rattle.entries.specs.Calls.{places_where, asset_places};
 
 use fields::bytes::skip;
 use fields::front::{after_front, first_from, is_whole, parts_of};
@@ -17,7 +17,7 @@ use walking::shape::{is_debit, is_payout};
 
 // Lists the payouts among the calls of a table, and answers how many there are.
 pub fn list_payouts(file: &[u8], calls: &[u16], table: &mut [u16]) -> usize
-    ensures { Listed (placesWhere file.now isPayout calls.now) table.old 0 table.new result }
+    ensures { Listed (places_where file.now is_payout calls.now) table.old 0 table.new result }
 {
     let mut i = 0;
     let mut n = 0;
@@ -31,7 +31,7 @@ pub fn list_payouts(file: &[u8], calls: &[u16], table: &mut [u16]) -> usize
 
 // Lists the caller debits in the same way.
 pub fn list_debits(file: &[u8], calls: &[u16], table: &mut [u16]) -> usize
-    ensures { Listed (placesWhere file.now isDebit calls.now) table.old 0 table.new result }
+    ensures { Listed (places_where file.now is_debit calls.now) table.old 0 table.new result }
 {
     let mut i = 0;
     let mut n = 0;
@@ -46,7 +46,7 @@ pub fn list_debits(file: &[u8], calls: &[u16], table: &mut [u16]) -> usize
 // Lists the asset parameters of the entry at a place, from n of the table on.
 pub fn list_parameters(file: &[u8], place: usize, table: &mut [u16], n: usize) -> usize
     requires { Standing file.now place n }
-    ensures { Listed (assetPlaces (place + 3) (parts (front (drop place file.now)))) table.old n table.new result }
+    ensures { Listed (asset_places (place + 3) (parts (front (drop place file.now)))) table.old n table.new result }
 {
     let row = parts_of(skip(file, place));
     let mut t = first_from(row, PARAMETER, PARAMETER);

@@ -8,26 +8,26 @@ use Rattle.tags.specs.Tag.{composite}
 use Rattle.fields.specs.Field.{fields, tag_of, whole, content, after, front}
 use Rattle.fields.proofs.Parts.{tag-front}
 use Rattle.fields.proofs.Reading.{fields-next, fields-end, front-whole, front-none, after_less}
-use Rattle.equality.specs.Equality.{sameText, exprEq, partsEq, sameTag}
+use Rattle.equality.specs.Equality.{same_text, expr_eq, parts_eq, same_tag}
 use Rattle.equality.proofs.Equality.{nothing_left, nothing_right, other_tag}
 
 -- a field that is not whole is no field, and equals nothing
-none_right : (a b : List ℕ) → whole b ≡ false → exprEq (front a) (front b) ≡ false
+none_right : (a b : List ℕ) → whole b ≡ false → expr_eq (front a) (front b) ≡ false
 none_right a b q = rw (front-none b q) (nothing_right (front a))
 
--- w is what same_tag says of a and b
-module _ (a b : List ℕ) (w : Bool) (o : w ≡ sameTag a b) where
-  pub tags-differ : not w ≡ true → false ≡ exprEq (front a) (front b)
+-- w is what same-tag says of a and b
+module _ (a b : List ℕ) (w : Bool) (o : w ≡ same_tag a b) where
+  pub tags-differ : not w ≡ true → false ≡ expr_eq (front a) (front b)
   tags-differ n = sym (go (whole a) (whole b) refl refl (sym o ∙ not-true w n))
     where
-      go : (j k : Bool) → whole a ≡ j → whole b ≡ k → sameTag a b ≡ false → exprEq (front a) (front b) ≡ false
+      go : (j k : Bool) → whole a ≡ j → whole b ≡ k → same_tag a b ≡ false → expr_eq (front a) (front b) ≡ false
       go false k p q e = rw (front-none a p) (nothing_left (front b))
       go true false p q e = none_right a b q
       go true true p q e =
           other_tag (front a) (front b) (rw (← tag-front a (tag_of a) p refl, ← tag-front b (tag_of b) q refl) (rw (p, q) at e))
 
   module _ (n : not w ≡ false) where
-    same : sameTag a b ≡ true
+    same : same_tag a b ≡ true
     same = sym o ∙ not-false w n
 
     pub left-whole : whole a ≡ true
@@ -40,47 +40,47 @@ module _ (a b : List ℕ) (w : Bool) (o : w ≡ sameTag a b) where
     one_tag = and_right (whole a && whole b) (eqb (tag_of a) (tag_of b)) same
 
     module _ (t : ℕ) (f : t ≡ tag_of a) (k : Bool) (c : k ≡ composite t) (x y : List ℕ) (g : x ≡ content a) (h : y ≡ content b) (r : Bool) where
-      pub parts-decide : k ≡ true → r ≡ partsEq (fields x) (fields y) → r ≡ exprEq (front a) (front b)
-      unfolding exprEq
+      pub parts-decide : k ≡ true → r ≡ parts_eq (fields x) (fields y) → r ≡ expr_eq (front a) (front b)
+      unfolding expr_eq
       parts-decide m d = cc (front-whole a left-whole, front-whole b right-whole, one_tag, eqb-true (tag_of a) (tag_of b) one_tag)
 
-      pub texts-decide : k ≡ false → r ≡ sameText t x y → r ≡ exprEq (front a) (front b)
-      unfolding exprEq partsEq
+      pub texts-decide : k ≡ false → r ≡ same_text t x y → r ≡ expr_eq (front a) (front b)
+      unfolding expr_eq parts_eq
       texts-decide m d = cc (front-whole a left-whole, front-whole b right-whole, one_tag, eqb-true (tag_of a) (tag_of b) one_tag, and-true r)
 
 -- the loop over parts: what is left of both decides, and is no longer than what was asked
 pub record Comparing (a b x y : List ℕ) : Type 0 where
   pub within : length x ≤ length a
-  pub left : partsEq (fields x) (fields y) ≡ partsEq (fields a) (fields b)
+  pub left : parts_eq (fields x) (fields y) ≡ parts_eq (fields a) (fields b)
 
 pub comparing-all : (a b : List ℕ) → Comparing a b a b
 comparing-all a b = record { within = omega arith; left = refl }
 
 -- none is left on the first side
-ended : (x y : List ℕ) → whole x ≡ false → (v : Bool) → v ≡ whole y → not v ≡ partsEq (fields x) (fields y)
-unfolding partsEq
+ended : (x y : List ℕ) → whole x ≡ false → (v : Bool) → v ≡ whole y → not v ≡ parts_eq (fields x) (fields y)
+unfolding parts_eq
 ended x y p true q = rw (fields-end x p, fields-next y (sym q))
 ended x y p false q = rw (fields-end x p, fields-end y (sym q))
 
 -- one is left there; where none is left on the second side, it equals nothing
 one-step : (x y : List ℕ) → whole x ≡ true →
-    partsEq (fields x) (fields y) ≡ exprEq (front x) (front y) && partsEq (fields (after x)) (fields (after y))
-unfolding partsEq
+    parts_eq (fields x) (fields y) ≡ expr_eq (front x) (front y) && parts_eq (fields (after x)) (fields (after y))
+unfolding parts_eq
 one-step x y p = go (whole y) refl
   where
     go : (w : Bool) → whole y ≡ w →
-        partsEq (fields x) (fields y) ≡ exprEq (front x) (front y) && partsEq (fields (after x)) (fields (after y))
+        parts_eq (fields x) (fields y) ≡ expr_eq (front x) (front y) && parts_eq (fields (after x)) (fields (after y))
     go true q = cc (fields-next x p, fields-next y q)
     go false q = cc (fields-next x p, fields-end y q, none_right x y q)
 
 module _ (a b x y : List ℕ) (i : Comparing a b x y) where
-  pub comparing-done : whole x ≡ false → (v : Bool) → v ≡ whole y → not v ≡ partsEq (fields a) (fields b)
+  pub comparing-done : whole x ≡ false → (v : Bool) → v ≡ whole y → not v ≡ parts_eq (fields a) (fields b)
   comparing-done p v q = ended x y p v q ∙ i.left
 
   module _ (p : whole x ≡ true) where
-    pub comparing-differ : exprEq (front x) (front y) ≡ false → false ≡ partsEq (fields a) (fields b)
+    pub comparing-differ : expr_eq (front x) (front y) ≡ false → false ≡ parts_eq (fields a) (fields b)
     comparing-differ e = rw (← i.left, one-step x y p, e)
 
-    pub comparing-on : exprEq (front x) (front y) ≡ true → (u v : List ℕ) → u ≡ after x → v ≡ after y → Comparing a b u v
+    pub comparing-on : expr_eq (front x) (front y) ≡ true → (u v : List ℕ) → u ≡ after x → v ≡ after y → Comparing a b u v
     comparing-on e u v f g =
         record { within = omega (arith, after_less x u p f); left = rw (f, g, ← i.left, one-step x y p, e) }

@@ -2,14 +2,14 @@
 use Rattle.std.proofs.Common.{ℕ, ◌≡◌, refl, Bool, true, false, List, [], ◌∷◌}
 use Prim.Native.String.{String}
 use Rattle.laws.specs.Lists.{any, all, filter}
-use Rattle.laws.specs.Texts.{sameBytes, bytes}
-use Rattle.tags.specs.Tag.{isExpression, composite}
+use Rattle.laws.specs.Texts.{same_bytes, bytes}
+use Rattle.tags.specs.Tag.{is_expression, composite}
 use Rattle.tags.specs.Tag as tag
-use Rattle.fields.specs.Field.{Field, fields, fieldsTo, nth, front, nothing}
+use Rattle.fields.specs.Field.{Field, fields, fields_to, nth, front, nothing}
 use Rattle.fields.specs.Field.Field.{field}
 use Rattle.fields.specs.Field.Fields.{end, next}
-use Rattle.equality.specs.Equality.{strip, sameText, exprEq, partsEq}
-use Rattle.equality.specs.Itself.{everyTag, everyTags, equalsNothing, inExpression, equalsItself}
+use Rattle.equality.specs.Equality.{strip, same_text, expr_eq, parts_eq}
+use Rattle.equality.specs.Itself.{every_tag, every_tags, equals_nothing, in_expression, equals_itself}
 
 -- a field with a text, and fields with one, two and three parts
 abbrev leaf : ℕ → String → Field
@@ -54,7 +54,7 @@ abbrev itself : Field → Pair
 itself f = with f f
 
 unfoldable equal : Pair → Bool
-equal p = exprEq p.left p.right
+equal p = expr_eq p.left p.right
 
 -- underscores do not count in an integer, wherever they stand; a field in a file may have more behind it
 abbrev same : List Pair
@@ -112,15 +112,15 @@ different =
     ∷ []
 
 all_same : all equal same ≡ true
-unfolding all filter sameBytes composite fields fieldsTo nth strip sameText exprEq partsEq equal
+unfolding all filter same_bytes composite fields fields_to nth strip same_text expr_eq parts_eq equal
 all_same = refl
 
 none-same : any equal different ≡ false
-unfolding any filter sameBytes composite fields fieldsTo nth strip sameText exprEq partsEq equal
+unfolding any filter same_bytes composite fields fields_to nth strip same_text expr_eq parts_eq equal
 none-same = refl
 
 -- what equals itself, by the definition of that: the same, and not where an in-asset stands deep inside
-of-itself : equalsItself (inside (member "a" "amount")) ∷ equalsItself (inside (leaf tag.InAsset "")) ∷ equalsItself nothing ∷ []
+of-itself : equals_itself (inside (member "a" "amount")) ∷ equals_itself (inside (leaf tag.InAsset "")) ∷ equals_itself nothing ∷ []
     ≡ true ∷ false ∷ false ∷ []
-unfolding composite isExpression everyTag everyTags equalsNothing inExpression
+unfolding composite is_expression every_tag every_tags equals_nothing in_expression
 of-itself = refl

@@ -3,52 +3,52 @@
 use Rattle.std.proofs.Common.{◌≡◌, refl, sym, ◌∙◌, Bool, true, false, cond, not, ◌&&◌, List, [], ◌∷◌, ℕ, ◌+◌, ◌<◌, eq-eqb, ne_eqb, ltb-true, ltb-false, eqb, ltb, length, get_or, drop, drop_of_length-le}
 use mathlib.Core.Bool.{and-true}
 use Rattle.laws.specs.Lists.{all, filter}
-use Rattle.laws.specs.Texts.{sameBytes}
+use Rattle.laws.specs.Texts.{same_bytes}
 use Rattle.laws.proofs.Slices.{drop-step}
 use Rattle.laws.proofs.Texts.{bytes-symmetric}
 use Rattle.laws.proofs.Truths.{and_left, and_right}
-use Rattle.equality.specs.Equality.{isUnderscore, strip}
+use Rattle.equality.specs.Equality.{is_underscore, strip}
 
-strip-underscore : (x : ℕ) (l : List ℕ) → x ≡ 0x5F → strip (x ∷ l) ≡ strip l
+strip-underscore : (x : ℕ) (l : List ℕ) → x ≡ 0x5_f → strip (x ∷ l) ≡ strip l
 unfolding strip filter
-strip-underscore x l e = rw (eq-eqb x 0x5F e)
+strip-underscore x l e = rw (eq-eqb x 0x5_f e)
 
-strip-other : (x : ℕ) (l : List ℕ) → (x ≡ 0x5F → ⊥) → strip (x ∷ l) ≡ x ∷ strip l
+strip-other : (x : ℕ) (l : List ℕ) → (x ≡ 0x5_f → ⊥) → strip (x ∷ l) ≡ x ∷ strip l
 unfolding strip filter
-strip-other x l n = rw (ne_eqb x 0x5F n)
+strip-other x l n = rw (ne_eqb x 0x5_f n)
 
 -- nothing is left of a text exactly where it is underscores only
-strip-none : (l : List ℕ) → sameBytes [] (strip l) ≡ all isUnderscore l
-unfolding strip filter sameBytes all
+strip-none : (l : List ℕ) → same_bytes [] (strip l) ≡ all is_underscore l
+unfolding strip filter same_bytes all
 strip-none [] = refl
-strip-none (x ∷ l) = go (eqb x 0x5F) (strip-none l)
+strip-none (x ∷ l) = go (eqb x 0x5_f) (strip-none l)
   where
-    go : (k : Bool) → sameBytes [] (strip l) ≡ all isUnderscore l →
-        sameBytes [] (cond (not k) (x ∷ strip l) (strip l)) ≡ k && all isUnderscore l
+    go : (k : Bool) → same_bytes [] (strip l) ≡ all is_underscore l →
+        same_bytes [] (cond (not k) (x ∷ strip l) (strip l)) ≡ k && all is_underscore l
     go true e = e
     go false e = refl
 
-strip-pair : (x : ℕ) (l m : List ℕ) → sameBytes (strip (x ∷ l)) (strip (x ∷ m)) ≡ sameBytes (strip l) (strip m)
-unfolding strip filter sameBytes
-strip-pair x l m = go (eqb x 0x5F)
+strip-pair : (x : ℕ) (l m : List ℕ) → same_bytes (strip (x ∷ l)) (strip (x ∷ m)) ≡ same_bytes (strip l) (strip m)
+unfolding strip filter same_bytes
+strip-pair x l m = go (eqb x 0x5_f)
   where
     go : (k : Bool) →
-        sameBytes (cond (not k) (x ∷ strip l) (strip l)) (cond (not k) (x ∷ strip m) (strip m)) ≡ sameBytes (strip l) (strip m)
+        same_bytes (cond (not k) (x ∷ strip l) (strip l)) (cond (not k) (x ∷ strip m) (strip m)) ≡ same_bytes (strip l) (strip m)
     go true = refl
     go false = rw (eq-eqb x x refl)
 
 -- where one of two texts has ended, the other may have underscores only
-left_ended : (m : List ℕ) → all isUnderscore [] && all isUnderscore m ≡ sameBytes (strip []) (strip m)
+left_ended : (m : List ℕ) → all is_underscore [] && all is_underscore m ≡ same_bytes (strip []) (strip m)
 unfolding strip filter all
 left_ended m = sym (strip-none m)
 
-right-ended : (l : List ℕ) → all isUnderscore l && all isUnderscore [] ≡ sameBytes (strip l) (strip [])
+right-ended : (l : List ℕ) → all is_underscore l && all is_underscore [] ≡ same_bytes (strip l) (strip [])
 unfolding strip filter all
-right-ended l = and-true (all isUnderscore l) ∙ sym (strip-none l) ∙ bytes-symmetric [] (strip l)
+right-ended l = and-true (all is_underscore l) ∙ sym (strip-none l) ∙ bytes-symmetric [] (strip l)
 
 -- what is left of a from i on and of b from j on decides
 pub record Stripping (a b : List ℕ) (i j : ℕ) : Type 0 where
-  pub left : sameBytes (strip (drop i a)) (strip (drop j b)) ≡ sameBytes (strip a) (strip b)
+  pub left : same_bytes (strip (drop i a)) (strip (drop j b)) ≡ same_bytes (strip a) (strip b)
 
 pub stripping-all : (a b : List ℕ) → Stripping a b 0 0
 stripping-all a b = record { left = refl }
@@ -65,12 +65,12 @@ module _ (a b : List ℕ) (i j : ℕ) where
   right-inside h = ltb-true j (length b) (and_right (ltb i (length a)) (ltb j (length b)) h)
 
   module _ (v : Stripping a b i j) where
-    pub stripping-done : both ≡ false → (p q : Bool) → p ≡ all isUnderscore (drop i a) → q ≡ all isUnderscore (drop j b) →
-        p && q ≡ sameBytes (strip a) (strip b)
+    pub stripping-done : both ≡ false → (p q : Bool) → p ≡ all is_underscore (drop i a) → q ≡ all is_underscore (drop j b) →
+        p && q ≡ same_bytes (strip a) (strip b)
     stripping-done h p q e f = rw (e, f, ← v.left) (go (ltb i (length a)) (ltb j (length b)) refl refl)
       where
         go : (x y : Bool) → ltb i (length a) ≡ x → ltb j (length b) ≡ y →
-            all isUnderscore (drop i a) && all isUnderscore (drop j b) ≡ sameBytes (strip (drop i a)) (strip (drop j b))
+            all is_underscore (drop i a) && all is_underscore (drop j b) ≡ same_bytes (strip (drop i a)) (strip (drop j b))
         go false y g k = rw (drop_of_length-le a (ltb-false i (length a) g)) (left_ended (drop j b))
         go true false g k = rw (drop_of_length-le b (ltb-false j (length b) k)) (right-ended (drop i a))
         go true true g k = cc
@@ -85,14 +85,14 @@ module _ (a b : List ℕ) (i j : ℕ) where
       pub stripping-pair : get_or a i 0 ≡ get_or b j 0 → Stripping a b (i + 1) (j + 1)
       stripping-pair e = record { left = sym (strip-pair (get_or b j 0) (drop (i + 1) a) (drop (j + 1) b)) ∙ rw (split-left, split-right, e) at v.left }
 
-      pub stripping-left : get_or a i 0 ≡ 0x5F → Stripping a b (i + 1) j
+      pub stripping-left : get_or a i 0 ≡ 0x5_f → Stripping a b (i + 1) j
       stripping-left e = record { left = rw (split-left, strip-underscore (get_or a i 0) (drop (i + 1) a) e) at v.left }
 
-      pub stripping-right : get_or b j 0 ≡ 0x5F → Stripping a b i (j + 1)
+      pub stripping-right : get_or b j 0 ≡ 0x5_f → Stripping a b i (j + 1)
       stripping-right e = record { left = rw (split-right, strip-underscore (get_or b j 0) (drop (j + 1) b) e) at v.left }
 
-      pub stripping-differ : (get_or a i 0 ≡ get_or b j 0 → ⊥) → (get_or a i 0 ≡ 0x5F → ⊥) → (get_or b j 0 ≡ 0x5F → ⊥) →
-          false ≡ sameBytes (strip a) (strip b)
-      unfolding sameBytes
+      pub stripping-differ : (get_or a i 0 ≡ get_or b j 0 → ⊥) → (get_or a i 0 ≡ 0x5_f → ⊥) → (get_or b j 0 ≡ 0x5_f → ⊥) →
+          false ≡ same_bytes (strip a) (strip b)
+      unfolding same_bytes
       stripping-differ n p q =
           rw (split-left, split-right, strip-other (get_or a i 0) (drop (i + 1) a) p, strip-other (get_or b j 0) (drop (j + 1) b) q, ne_eqb _ _ n) at v.left

@@ -7,5 +7,5 @@ use Rattle.fields.specs.Field.Field.{field}
 use Rattle.fields.specs.Field.Fields.{end, next}
 
 -- `p.amount`
-abbrev pub amountOf : List ℕ → Field
-amountOf p = field Member [] (next (field Identifier p (end [])) (next (field Name (bytes "amount") (end [])) (end [])))
+abbrev pub amount_of : List ℕ → Field
+amount_of p = field Member [] (next (field Identifier p (end [])) (next (field Name (bytes "amount") (end [])) (end [])))

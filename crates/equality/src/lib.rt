@@ -2,10 +2,10 @@
 // Equality of expressions. An expression is the part of the file that starts with it.
 ghost use Rattle.std.specs.Prelude.{◌≡◌, drop};
 ghost use Rattle.laws.specs.Lists.{all};
-ghost use Rattle.laws.specs.Texts.{sameBytes};
+ghost use Rattle.laws.specs.Texts.{same_bytes};
 ghost use Rattle.fields.specs.Field.{fields, front};
-ghost use Rattle.equality.specs.Equality.{isUnderscore, strip, sameText, exprEq, partsEq, sameTag};
-ghost use Rattle.equality.specs.Amount.{amountOf};
+ghost use Rattle.equality.specs.Equality.{is_underscore, strip, same_text, expr_eq, parts_eq, same_tag};
+ghost use Rattle.equality.specs.Amount.{amount_of};
 
 use fields::bytes::same_bytes;
 use fields::front::{after_front, front_content, front_tag, is_whole, parts_of, tag_of, text_of};
@@ -13,7 +13,7 @@ use tags::{CALLER, IDENTIFIER, INTEGER, MEMBER, NAME, NOW, STRING, is_composite}
 
 // Whether s is underscores only from i on.
 fn only_underscores(s: &[u8], i: usize) -> bool
-    ensures { result ≡ all isUnderscore (drop i s.now) }
+    ensures { result ≡ all is_underscore (drop i s.now) }
 {
     let mut k = i;
     while k < s.len() {
@@ -27,7 +27,7 @@ fn only_underscores(s: &[u8], i: usize) -> bool
 
 // Whether two integers are the same text without their underscores.
 fn same_integers(a: &[u8], b: &[u8]) -> bool
-    ensures { result ≡ sameBytes (strip a.now) (strip b.now) }
+    ensures { result ≡ same_bytes (strip a.now) (strip b.now) }
 {
     let mut i = 0;
     let mut j = 0;
@@ -51,7 +51,7 @@ fn same_integers(a: &[u8], b: &[u8]) -> bool
 
 // Whether two fields of one tag, which have no parts, have the same text.
 fn same_text(tag: u8, a: &[u8], b: &[u8]) -> bool
-    ensures { result ≡ sameText tag a.now b.now }
+    ensures { result ≡ same_text tag a.now b.now }
 {
     if (tag == NAME) | (tag == STRING) | (tag == IDENTIFIER) {
         return same_bytes(a, b);
@@ -64,7 +64,7 @@ fn same_text(tag: u8, a: &[u8], b: &[u8]) -> bool
 
 // Whether whole fields of one tag stand at the fronts of a and b.
 fn same_tag(a: &[u8], b: &[u8]) -> bool
-    ensures { result ≡ sameTag a.now b.now }
+    ensures { result ≡ same_tag a.now b.now }
 {
     if !is_whole(a) {
         return false;
@@ -81,7 +81,7 @@ fn same_tag(a: &[u8], b: &[u8]) -> bool
 // gone through by a loop, so that the stack grows with the nesting and not with the number of parts.
 #[cycle(expr_eq_parts_eq)]
 pub fn expr_eq(a: &[u8], b: &[u8]) -> bool
-    ensures { result ≡ exprEq (front a.now) (front b.now) }
+    ensures { result ≡ expr_eq (front a.now) (front b.now) }
 {
     if !same_tag(a, b) {
         return false;
@@ -96,7 +96,7 @@ pub fn expr_eq(a: &[u8], b: &[u8]) -> bool
 // Whether a and b hold as many fields, each equal to its counterpart.
 #[cycle(expr_eq_parts_eq)]
 fn parts_eq(a: &[u8], b: &[u8]) -> bool
-    ensures { result ≡ partsEq (fields a.now) (fields b.now) }
+    ensures { result ≡ parts_eq (fields a.now) (fields b.now) }
 {
     let mut x = a;
     let mut y = b;
@@ -115,7 +115,7 @@ fn parts_eq(a: &[u8], b: &[u8]) -> bool
 // Whether the expression at the front of s equals the `p.amount` of the parameter of that name. No such expression need
 // stand in the file, so it is known by the name only: a member whose parts are exactly that identifier and `amount`.
 pub fn is_amount_of(name: &[u8], s: &[u8]) -> bool
-    ensures { result ≡ exprEq (amountOf name.now) (front s.now) }
+    ensures { result ≡ expr_eq (amount_of name.now) (front s.now) }
 {
     if tag_of(s) != MEMBER {
         return false;

@@ -4,9 +4,9 @@ use Rattle.questions.specs.Questions.{Asked}
 use Rattle.questions.specs.Questions.Asked.{passes, fails}
 
 -- the number of the question that said no; 0 where all passed
-abbrev pub questionIn : Asked → ℕ
-questionIn passes = 0
-questionIn (fails number place) = number
+abbrev pub question_in : Asked → ℕ
+question_in passes = 0
+question_in (fails number place) = number
 
 -- what the caller's place holds: the place of the "no", and where all passed what it held before
 abbrev pub place_in : Asked → ℕ → ℕ

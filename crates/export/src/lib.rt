@@ -1,12 +1,12 @@
 // The functions that C and Rust call: numbers and slices only. A slice is a pointer and then a length.
 ghost use Rattle.std.specs.Prelude.{◌≡◌, length};
 ghost use Rattle.fields.specs.Field.{fields, front};
-ghost use Rattle.questions.specs.Questions.{askFile};
-ghost use Rattle.equality.specs.Equality.{exprEq};
-ghost use Rattle.bounds.specs.Bounds.{boundedByBacking};
-ghost use Rattle.tokens.specs.Tokens.{admittedInflowToken};
-ghost use Rattle.fundings.specs.FundingTokens.{fundingToken};
-ghost use Rattle.reserve_tokens.specs.ReserveTokens.{reserveToken};
+ghost use Rattle.questions.specs.Questions.{ask_file};
+ghost use Rattle.equality.specs.Equality.{expr_eq};
+ghost use Rattle.bounds.specs.Bounds.{bounded_by_backing};
+ghost use Rattle.tokens.specs.Tokens.{admitted_inflow_token};
+ghost use Rattle.fundings.specs.FundingTokens.{funding_token};
+ghost use Rattle.reserve_tokens.specs.ReserveTokens.{reserve_token};
 ghost use Rattle.claim.specs.Verdict.{entry_at, verdict, written};
 ghost use Rattle.claim.specs.Claim.{Demand3};
 ghost use Rattle.output.specs.Output.{Written};
@@ -14,9 +14,9 @@ ghost use Rattle.listing.specs.Listing.{listing};
 ghost use Rattle.contract.specs.Answer.{outcome, first_of, second_of};
 ghost use Rattle.contract.specs.Records as contract;
 ghost use Rattle.contract.specs.Backed.{EachBacked};
-ghost use Rattle.export.specs.Refusal.{questionIn, place_in};
-ghost use Rattle.export.specs.Token.{isTokenOf};
-ghost use Rattle.export.specs.Reserve.{reserveNumber};
+ghost use Rattle.export.specs.Refusal.{question_in, place_in};
+ghost use Rattle.export.specs.Token.{is_token_of};
+ghost use Rattle.export.specs.Reserve.{reserve_number};
 
 use bounds::bounded_by_backing;
 use contract::numbers::numbers_of;
@@ -65,7 +65,7 @@ pub extern "C" fn zevdrak_verdict(
 // records.
 #[unsafe(no_mangle)]
 pub extern "C" fn zevdrak_contract(file: &[u8], records: &mut [u8], length: &mut usize) -> u8
-    ensures answer { result ≡ contract.outcomeOfAll file.now }
+    ensures answer { result ≡ contract.outcome_of_all file.now }
     ensures records { Written (contract.records file.now) «records».old 0 «records».new «length».new }
     ensures backed { EachBacked file.now }
 {
@@ -85,7 +85,7 @@ pub extern "C" fn zevdrak_listing(file: &[u8], out: &mut [u8]) -> usize
 // Questions 1 to 8 of a file: 0 if all pass, else the number of the first "no", whose place is then written.
 #[unsafe(no_mangle)]
 pub extern "C" fn zevdrak_check_file(file: &[u8], place: &mut usize) -> u8
-    ensures { (result ≡ questionIn (askFile file.now)) × (place.new ≡ place_in (askFile file.now) place.old) }
+    ensures { (result ≡ question_in (ask_file file.now)) × (place.new ≡ place_in (ask_file file.now) place.old) }
 {
     match check_file(file) {
         Answer::Passes => 0,
@@ -102,7 +102,7 @@ pub extern "C" fn zevdrak_check_file(file: &[u8], place: &mut usize) -> u8
 // Whether the expressions at the fronts of two parts of a file are equal.
 #[unsafe(no_mangle)]
 pub extern "C" fn zevdrak_expr_eq(a: &[u8], b: &[u8]) -> bool
-    ensures { result ≡ exprEq (front a.now) (front b.now) }
+    ensures { result ≡ expr_eq (front a.now) (front b.now) }
 {
     expr_eq(a, b)
 }
@@ -110,7 +110,7 @@ pub extern "C" fn zevdrak_expr_eq(a: &[u8], b: &[u8]) -> bool
 // Whether the backing at the front of one part bounds the amount at the front of another.
 #[unsafe(no_mangle)]
 pub extern "C" fn zevdrak_bounded_by_backing(amount: &[u8], backing: &[u8], wrapping: bool) -> bool
-    ensures { result ≡ boundedByBacking (front amount.now) (front backing.now) wrapping }
+    ensures { result ≡ bounded_by_backing (front amount.now) (front backing.now) wrapping }
 {
     bounded_by_backing(amount, backing, wrapping)
 }
@@ -119,7 +119,7 @@ pub extern "C" fn zevdrak_bounded_by_backing(amount: &[u8], backing: &[u8], wrap
 // longer than a file may be has none of which this is told.
 #[unsafe(no_mangle)]
 pub extern "C" fn zevdrak_is_admitted_inflow_token(entry: &[u8], token: &[u8]) -> bool
-    ensures { result ≡ isTokenOf entry.now (admittedInflowToken (front entry.now)) token.now }
+    ensures { result ≡ is_token_of entry.now (admitted_inflow_token (front entry.now)) token.now }
 {
     if 32768 < entry.len() {
         return false;
@@ -130,7 +130,7 @@ pub extern "C" fn zevdrak_is_admitted_inflow_token(entry: &[u8], token: &[u8]) -
 // Whether it is the one token that funds the map.
 #[unsafe(no_mangle)]
 pub extern "C" fn zevdrak_is_ledger_funding_token(file: &[u8], map: &[u8], token: &[u8]) -> bool
-    ensures { result ≡ isTokenOf file.now (fundingToken (fields file.now) map.now) token.now }
+    ensures { result ≡ is_token_of file.now (funding_token (fields file.now) map.now) token.now }
 {
     if 32768 < file.len() {
         return false;
@@ -141,7 +141,7 @@ pub extern "C" fn zevdrak_is_ledger_funding_token(file: &[u8], map: &[u8], token
 // Whether it is the token that the state field of that name holds.
 #[unsafe(no_mangle)]
 pub extern "C" fn zevdrak_is_reserve_token(file: &[u8], field: &[u8], token: &[u8]) -> bool
-    ensures { result ≡ isTokenOf file.now (reserveToken (fields file.now) field.now) token.now }
+    ensures { result ≡ is_token_of file.now (reserve_token (fields file.now) field.now) token.now }
 {
     if 32768 < file.len() {
         return false;
@@ -155,7 +155,7 @@ pub extern "C" fn zevdrak_is_reserve_token(file: &[u8], field: &[u8], token: &[u
 // a file that is longer than question 1 allows.
 #[unsafe(no_mangle)]
 pub extern "C" fn zevdrak_reserve_bounding_payout(file: &[u8], entry: usize, payout: usize) -> usize
-    ensures { result ≡ reserveNumber file.now entry payout }
+    ensures { result ≡ reserve_number file.now entry payout }
 {
     if 32768 < file.len() {
         return 65535;

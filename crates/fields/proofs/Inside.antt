@@ -4,7 +4,7 @@ use Rattle.std.proofs.Common.{ℕ, ◌+◌, ◌-◌, ◌≤◌, min, ◌≡◌, 
 use lib.Seq.{take-append-le, drop-append-le}
 use Rattle.laws.proofs.Lists.{Every}
 use Rattle.laws.proofs.Slices.{drop-take}
-use Rattle.fields.specs.Field.{Placed, fields, tag_of, length_of, whole, content, after, front, parts, size, sizes, placed, placedParts}
+use Rattle.fields.specs.Field.{Placed, fields, tag_of, length_of, whole, content, after, front, parts, size, sizes, placed, placed_parts}
 use Rattle.fields.proofs.Reading.{fields-next, fields-end, front-whole, by-fields}
 use Rattle.fields.proofs.Places.{front-size}
 use Rattle.fields.proofs.Parts.{parts-bytes}
@@ -14,8 +14,8 @@ module _ (n : ℕ) (s : List ℕ) (w : whole (take n s) ≡ true) where
   fits : 3 + length_of (take n s) ≤ min n (length s)
   fits = rw (← length-take n s) (leb-true _ _ w)
 
-  same_tag : tag_of (take n s) ≡ tag_of s
-  same_tag = let h = fits in get_or-take n s 0 0 (omega arith)
+  same-tag : tag_of (take n s) ≡ tag_of s
+  same-tag = let h = fits in get_or-take n s 0 0 (omega arith)
 
   pub same_length : length_of (take n s) ≡ length_of s
   same_length = let h = fits in cc (get_or-take n s 1 0 (omega arith), get_or-take n s 2 0 (omega arith))
@@ -32,7 +32,7 @@ module _ (n : ℕ) (s : List ℕ) (w : whole (take n s) ≡ true) where
   whole-inside = let h = fits in le-leb (3 + length_of s) (length s) (omega (arith, same_length))
 
   pub front-inside : front (take n s) ≡ front s
-  front-inside = rw (front-whole (take n s) w, same_tag, same-content) (sym (front-whole s whole-inside))
+  front-inside = rw (front-whole (take n s) w, same-tag, same-content) (sym (front-whole s whole-inside))
 
   -- and what is behind it is what is left of those n bytes
   pub after-inside : after (take n s) ≡ take (n - (3 + length_of s)) (after s)
@@ -58,7 +58,7 @@ pub row-stands : (file : List ℕ) (k n : ℕ) → Every (Stands file) (placed k
 row-stands file k n = row_of file (take n (drop k file)) k n refl
 
 -- the parts of a field that stands in the file stand there too
-pub parts-stand : (file : List ℕ) (p : Placed) → Stands file p → Every (Stands file) (placedParts p)
+pub parts-stand : (file : List ℕ) (p : Placed) → Stands file p → Every (Stands file) (placed_parts p)
 parts-stand file p e =
     rw (← e, parts-bytes (drop p.place file), drop-drop)
     (row-stands file (p.place + 3) (sizes (parts (front (drop p.place file)))))

@@ -9,35 +9,35 @@ use Rattle.fields.proofs.Reading.{front-whole, front-none, fields-end}
 use Rattle.fields.proofs.Places.{content-length, tree-size}
 
 -- a field by the two tests, whether it is whole and whether it has parts
-abbrev byTests : Bool → Bool → ℕ → List ℕ → Fields → Field
-byTests u v t x ps = cond u (cond v (field t [] ps) (field t x (end []))) nothing
+abbrev by_tests : Bool → Bool → ℕ → List ℕ → Fields → Field
+by_tests u v t x ps = cond u (cond v (field t [] ps) (field t x (end []))) nothing
 
-text-by : (u v : Bool) (t : ℕ) (x : List ℕ) (ps : Fields) → u && not v ≡ true → x ≡ text (byTests u v t x ps)
+text-by : (u v : Bool) (t : ℕ) (x : List ℕ) (ps : Fields) → u && not v ≡ true → x ≡ text (by_tests u v t x ps)
 text-by true true t x ps h = cc
 text-by true false t x ps h = refl
 text-by false v t x ps h = cc
 
-no-text-by : (u v : Bool) (t : ℕ) (x : List ℕ) (ps : Fields) → u && not v ≡ false → [] ≡ text (byTests u v t x ps)
+no-text-by : (u v : Bool) (t : ℕ) (x : List ℕ) (ps : Fields) → u && not v ≡ false → [] ≡ text (by_tests u v t x ps)
 no-text-by true true t x ps h = refl
 no-text-by true false t x ps h = cc
 no-text-by false v t x ps h = refl
 
-parts-by : (u v : Bool) (t : ℕ) (x : List ℕ) (ps : Fields) → u && v ≡ true → ps ≡ parts (byTests u v t x ps)
+parts-by : (u v : Bool) (t : ℕ) (x : List ℕ) (ps : Fields) → u && v ≡ true → ps ≡ parts (by_tests u v t x ps)
 parts-by true true t x ps h = refl
 parts-by true false t x ps h = cc
 parts-by false v t x ps h = cc
 
-no-parts-by : (u v : Bool) (t : ℕ) (x : List ℕ) (ps : Fields) → u && v ≡ false → end [] ≡ parts (byTests u v t x ps)
+no-parts-by : (u v : Bool) (t : ℕ) (x : List ℕ) (ps : Fields) → u && v ≡ false → end [] ≡ parts (by_tests u v t x ps)
 no-parts-by true true t x ps h = cc
 no-parts-by true false t x ps h = refl
 no-parts-by false v t x ps h = refl
 
 module _ (s : List ℕ) where
   -- the front by its two tests: a field with parts, with a text, or none
-  front-is : front s ≡ byTests (whole s) (composite (tag_of s)) (tag_of s) (content s) (fields (content s))
+  front-is : front s ≡ by_tests (whole s) (composite (tag_of s)) (tag_of s) (content s) (fields (content s))
   front-is = go (whole s) refl
     where
-      go : (w : Bool) → whole s ≡ w → front s ≡ byTests (whole s) (composite (tag_of s)) (tag_of s) (content s) (fields (content s))
+      go : (w : Bool) → whole s ≡ w → front s ≡ by_tests (whole s) (composite (tag_of s)) (tag_of s) (content s) (fields (content s))
       go true w = rw (front-whole s w, w)
       go false w = rw (front-none s w, w)
 

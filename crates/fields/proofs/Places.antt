@@ -4,7 +4,7 @@ use lib.Seq.{drop-nil, drop-length}
 use Rattle.laws.specs.Lists.{filter}
 use Rattle.laws.proofs.Lists.{no-elements}
 use Rattle.tags.specs.Tag.{composite, between}
-use Rattle.fields.specs.Field.{Field, Fields, fields, tag_of, length_of, whole, content, after, front, nth, tag, parts, size, sizes, place_of, row, fieldsFrom}
+use Rattle.fields.specs.Field.{Field, Fields, fields, tag_of, length_of, whole, content, after, front, nth, tag, parts, size, sizes, place_of, row, fields_from}
 use Rattle.fields.specs.Field.Field.{field}
 use Rattle.fields.specs.Field.Fields.{end, next}
 use Rattle.fields.proofs.Reading.{fields-next, fields-end, front-whole, after_none, by-fields}
@@ -43,13 +43,13 @@ parts-inside (field t x ps) = omega arith
 pub size-least : (f : Field) → 3 ≤ size f
 size-least f = omega (arith, parts-inside f)
 
-pub row-few : (low high : ℕ) (fs : Fields) → length (fieldsFrom low high fs) ≤ sizes fs
-unfolding fieldsFrom filter row sizes
+pub row-few : (low high : ℕ) (fs : Fields) → length (fields_from low high fs) ≤ sizes fs
+unfolding fields_from filter row sizes
 row-few low high (end r) = omega arith
 row-few low high (next f fs) = go (between low high (tag f)) (row-few low high fs)
   where
-    go : (k : Bool) → length (fieldsFrom low high fs) ≤ sizes fs →
-        length (cond k (f ∷ fieldsFrom low high fs) (fieldsFrom low high fs)) ≤ size f + sizes fs
+    go : (k : Bool) → length (fields_from low high fs) ≤ sizes fs →
+        length (cond k (f ∷ fields_from low high fs) (fields_from low high fs)) ≤ size f + sizes fs
     go true h = omega (arith, size-least f)
     go false h = omega arith
 

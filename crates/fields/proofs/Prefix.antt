@@ -4,7 +4,7 @@ use lib.Seq.{take-append_seam, drop-append-le}
 use Rattle.laws.specs.Lists.{filter}
 use Rattle.laws.proofs.Lists.{filter-append}
 use Rattle.tags.specs.Tag.{between}
-use Rattle.fields.specs.Field.{Fields, fields, length_of, whole, after, front, tag, row, fieldsFrom}
+use Rattle.fields.specs.Field.{Fields, fields, length_of, whole, after, front, tag, row, fields_from}
 use Rattle.fields.specs.Field.Fields.{end, next}
 use Rattle.fields.proofs.Reading.{fields-next, fields-end, by-fields}
 use Rattle.fields.proofs.Inside.{front-inside, whole-inside, same_length}
@@ -29,8 +29,8 @@ unfolding joined end_of
 joined-rest (end r) gs = refl
 joined-rest (next f fs) gs = joined-rest fs gs
 
-pub joined-from : (low high : ℕ) (fs gs : Fields) → fieldsFrom low high (joined fs gs) ≡ fieldsFrom low high fs ++ fieldsFrom low high gs
-unfolding fieldsFrom
+pub joined-from : (low high : ℕ) (fs gs : Fields) → fields_from low high (joined fs gs) ≡ fields_from low high fs ++ fields_from low high gs
+unfolding fields_from
 joined-from low high fs gs = rw (joined-row fs gs) (filter-append (λ f. between low high (tag f)) (row fs) (row gs))
 
 -- bytes behind bytes that are whole fields
@@ -91,7 +91,7 @@ module _ (file : List ℕ) (at : ℕ) (e : end_of (fields (take at file)) ≡ []
   unfolding end_of
   prefix-ends = rw (one-longer, joined-rest)
 
-  pub prefix-from : (low high : ℕ) → fieldsFrom low high (fields (take (at + (3 + length_of (drop at file))) file))
-      ≡ fieldsFrom low high (fields (take at file)) ++ cond (between low high (tag (front (drop at file)))) (front (drop at file) ∷ []) []
-  unfolding fieldsFrom filter row
+  pub prefix-from : (low high : ℕ) → fields_from low high (fields (take (at + (3 + length_of (drop at file))) file))
+      ≡ fields_from low high (fields (take at file)) ++ cond (between low high (tag (front (drop at file)))) (front (drop at file) ∷ []) []
+  unfolding fields_from filter row
   prefix-from low high = rw one-longer (joined-from low high (fields (take at file)) (next (front (drop at file)) (end [])))

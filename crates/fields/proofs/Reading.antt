@@ -1,7 +1,7 @@
 -- Reading unfolds by one field, and goes on with fewer bytes: more steps than there are bytes change nothing.
 use Rattle.std.proofs.Common.{ℕ, zero, suc, ◌+◌, ◌*◌, ◌≤◌, ◌<◌, ◌≡◌, refl, ap₂, sym, ◌∙◌, List, [], Bool, true, false, cond, arith, leb-true, leb-false, length, length-take, length-drop, drop_of_length-le}
 use borrow.Author.Tests.{lt-leb}
-use Rattle.fields.specs.Field.{Field, Fields, fields, fieldsTo, fieldWith, tag_of, length_of, whole, content, after, front, nth, nothing}
+use Rattle.fields.specs.Field.{Field, Fields, fields, fields_to, field_with, tag_of, length_of, whole, content, after, front, nth, nothing}
 use Rattle.fields.specs.Field.Field.{field}
 use Rattle.fields.specs.Field.Fields.{end, next}
 use Rattle.tags.specs.Tag.{composite}
@@ -27,35 +27,35 @@ abbrev field_of : List ℕ → Fields → Field
 field_of s ps = cond (composite (tag_of s)) (field (tag_of s) [] ps) (field (tag_of s) (content s) (end []))
 
 -- one step of reading, with what was read of the content and behind the field
-abbrev readWith : List ℕ → Fields → Fields → Fields
-readWith s ps fs = cond (whole s) (next (field_of s ps) fs) (end s)
+abbrev read_with : List ℕ → Fields → Fields → Fields
+read_with s ps fs = cond (whole s) (next (field_of s ps) fs) (end s)
 
 -- two readings of the content and of what is behind the field that agree give the same step
-step-with : (s : List ℕ) (ps qs fs gs : Fields) → (whole s ≡ true → ps ≡ qs) → (whole s ≡ true → fs ≡ gs) → readWith s ps fs ≡ readWith s qs gs
+step-with : (s : List ℕ) (ps qs fs gs : Fields) → (whole s ≡ true → ps ≡ qs) → (whole s ≡ true → fs ≡ gs) → read_with s ps fs ≡ read_with s qs gs
 step-with s ps qs fs gs e f = go (whole s) refl
   where
-    go : (w : Bool) → whole s ≡ w → readWith s ps fs ≡ readWith s qs gs
+    go : (w : Bool) → whole s ≡ w → read_with s ps fs ≡ read_with s qs gs
     go false w = rw w
-    go true w = ap₂ (λ x y. readWith s x y) (e w) (f w)
+    go true w = ap₂ (λ x y. read_with s x y) (e w) (f w)
 
 -- the definition as such a step
-step-to : (n : ℕ) (s : List ℕ) → fieldsTo (suc n) s ≡ readWith s (fieldsTo n (content s)) (fieldsTo n (after s))
-unfolding fieldsTo
+step-to : (n : ℕ) (s : List ℕ) → fields_to (suc n) s ≡ read_with s (fields_to n (content s)) (fields_to n (after s))
+unfolding fields_to
 step-to n s = go (whole s) (composite (tag_of s)) refl refl
   where
-    go : (j k : Bool) → whole s ≡ j → composite (tag_of s) ≡ k → fieldsTo (suc n) s ≡ readWith s (fieldsTo n (content s)) (fieldsTo n (after s))
+    go : (j k : Bool) → whole s ≡ j → composite (tag_of s) ≡ k → fields_to (suc n) s ≡ read_with s (fields_to n (content s)) (fields_to n (after s))
     go false k w c = cc
     go true true w c = cc
     go true false w c = cc
 
 -- no bytes, no field, however many steps
-none : (n : ℕ) (s : List ℕ) → length s ≤ 0 → fieldsTo n s ≡ end s
-unfolding fieldsTo
+none : (n : ℕ) (s : List ℕ) → length s ≤ 0 → fields_to n s ≡ end s
+unfolding fields_to
 none zero s h = refl
 none (suc n) s h = step-to n s ∙ simp (lt-leb (3 + length_of s) (length s) (omega arith))
 
-enough : (n m : ℕ) (s : List ℕ) → length s ≤ n → length s ≤ m → fieldsTo n s ≡ fieldsTo m s
-unfolding fieldsTo
+enough : (n m : ℕ) (s : List ℕ) → length s ≤ n → length s ≤ m → fields_to n s ≡ fields_to m s
+unfolding fields_to
 enough zero m s h k = sym (none m s h)
 enough (suc n) zero s h k = none (suc n) s k
 enough (suc n) (suc m) s h k =
@@ -66,7 +66,7 @@ enough (suc n) (suc m) s h k =
     ∙ sym (step-to m s)
 
 -- reading unfolds by one field
-pub fields-step : (s : List ℕ) → fields s ≡ cond (whole s) (next (fieldWith (tag_of s) (content s)) (fields (after s))) (end s)
+pub fields-step : (s : List ℕ) → fields s ≡ cond (whole s) (next (field_with (tag_of s) (content s)) (fields (after s))) (end s)
 unfolding fields
 fields-step s =
     enough (length s) (suc (length s)) s (omega arith) (omega arith)
@@ -82,7 +82,7 @@ module _ (s : List ℕ) where
     unfolding nth
     fields-next = rw (fields-step s, w)
 
-    pub front-whole : front s ≡ fieldWith (tag_of s) (content s)
+    pub front-whole : front s ≡ field_with (tag_of s) (content s)
     unfolding nth
     front-whole = rw (fields-step s, w)
 

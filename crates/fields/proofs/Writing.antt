@@ -15,8 +15,8 @@ word t s = write t (bytes s)
 abbrev pub name : String → List ℕ
 name s = word Name s
 
-abbrev pub typeName : String → List ℕ
-typeName s = word TypeName s
+abbrev pub type_name : String → List ℕ
+type_name s = word TypeName s
 
 abbrev pub integer : String → List ℕ
 integer s = word Integer s

@@ -36,25 +36,25 @@ abbrev pub after : List ℕ → List ℕ
 after s = drop (3 + length_of s) s
 
 -- the fields of s, at most n in a row and n deep
-unfoldable pub fieldsTo : ℕ → List ℕ → Fields
-fieldsTo zero s = end s
-fieldsTo (suc n) s =
+unfoldable pub fields_to : ℕ → List ℕ → Fields
+fields_to zero s = end s
+fields_to (suc n) s =
     elim (whole s) [
       | false ↦ end s
       | true ↦ next (elim (composite (tag_of s)) [
-        | true ↦ field (tag_of s) [] (fieldsTo n (content s))
+        | true ↦ field (tag_of s) [] (fields_to n (content s))
         | false ↦ field (tag_of s) (content s) (end [])
       ])
-          (fieldsTo n (after s))
+          (fields_to n (after s))
     ]
 
 -- the fields of s
 unfoldable pub fields : List ℕ → Fields
-fields s = fieldsTo (length s) s
+fields s = fields_to (length s) s
 
 -- the field with a tag and a content
-abbrev pub fieldWith : ℕ → List ℕ → Field
-fieldWith t x = cond (composite t) (field t [] (fields x)) (field t x (end []))
+abbrev pub field_with : ℕ → List ℕ → Field
+field_with t x = cond (composite t) (field t [] (fields x)) (field t x (end []))
 
 -- Parts
 
@@ -109,22 +109,22 @@ row (end r) = []
 row (next f fs) = f ∷ row fs
 
 -- those whose tags are from `low` to `high`
-unfoldable pub fieldsFrom : (low high : ℕ) → Fields → List Field
-fieldsFrom low high fs = filter (λ f. between low high (tag f)) (row fs)
+unfoldable pub fields_from : (low high : ℕ) → Fields → List Field
+fields_from low high fs = filter (λ f. between low high (tag f)) (row fs)
 
 -- how many bytes stand before the first of them; all, where there is none
-unfoldable pub placeFrom : (low high : ℕ) → Fields → ℕ
-placeFrom low high (end r) = length r
-placeFrom low high (next f fs) = cond (between low high (tag f)) 0 (size f + placeFrom low high fs)
+unfoldable pub place_from : (low high : ℕ) → Fields → ℕ
+place_from low high (end r) = length r
+place_from low high (next f fs) = cond (between low high (tag f)) 0 (size f + place_from low high fs)
 
 -- s from its first field on whose tag is from `low` to `high`
 abbrev pub from : (low high : ℕ) → List ℕ → List ℕ
-from low high s = drop (placeFrom low high (fields s)) s
+from low high s = drop (place_from low high (fields s)) s
 
 -- s from its n-th on: each is the first behind the one before
-unfoldable pub fromNth : (low high n : ℕ) → List ℕ → List ℕ
-fromNth low high zero s = from low high s
-fromNth low high (suc n) s = from low high (after (fromNth low high n s))
+unfoldable pub from_nth : (low high n : ℕ) → List ℕ → List ℕ
+from_nth low high zero s = from low high s
+from_nth low high (suc n) s = from low high (after (from_nth low high n s))
 
 -- a field with the offset of its tag byte
 pub record Placed : Type 0 where
@@ -137,12 +137,12 @@ placed n (end r) = []
 placed n (next f fs) = record { place = n; this = f } ∷ placed (n + size f) fs
 
 -- those whose tags are from `low` to `high`, with their places
-unfoldable pub placedFrom : (low high : ℕ) → ℕ → Fields → List Placed
-placedFrom low high n fs = filter (λ p. between low high (tag p.this)) (placed n fs)
+unfoldable pub placed_from : (low high : ℕ) → ℕ → Fields → List Placed
+placed_from low high n fs = filter (λ p. between low high (tag p.this)) (placed n fs)
 
 -- a field's parts with their places
-abbrev pub placedParts : Placed → List Placed
-placedParts p = placed (p.place + 3) (parts p.this)
+abbrev pub placed_parts : Placed → List Placed
+placed_parts p = placed (p.place + 3) (parts p.this)
 
 -- Writing
 

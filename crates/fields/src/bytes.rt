@@ -1,6 +1,6 @@
 // A byte or a part of a slice, for any index: past the end there are no more bytes.
 ghost use Rattle.std.specs.Prelude.{◌≡◌, get_or, take, drop};
-ghost use Rattle.laws.specs.Texts.{sameBytes};
+ghost use Rattle.laws.specs.Texts.{same_bytes};
 
 // The byte at i; 0 past the end.
 pub fn byte_at(s: &[u8], i: usize) -> u8
@@ -34,7 +34,7 @@ pub fn keep(s: &[u8], n: usize) -> &[u8]
 
 // Whether two texts are the same. Every comparison of names is this one.
 pub fn same_bytes(a: &[u8], b: &[u8]) -> bool
-    ensures { result ≡ sameBytes a.now b.now }
+    ensures { result ≡ same_bytes a.now b.now }
 {
     if a.len() != b.len() {
         return false;

@@ -1,6 +1,6 @@
 // The field at the front of a part of the file. An expression is handed on as the part of the file that starts with it.
 ghost use Rattle.std.specs.Prelude.{◌≡◌, ◌+◌, ◌*◌, ◌<◌, ◌-◌, take, drop, length};
-ghost use Rattle.fields.specs.Field.{tag_of, length_of, whole, content, after, fields, front, tag, text, parts, part, nth, sizes, place_of, from, fromNth};
+ghost use Rattle.fields.specs.Field.{tag_of, length_of, whole, content, after, fields, front, tag, text, parts, part, nth, sizes, place_of, from, from_nth};
 
 use super::bytes::{byte_at, keep, skip};
 use tags::is_composite;
@@ -127,7 +127,7 @@ pub fn first_from(s: &[u8], low: u8, high: u8) -> &[u8]
 // s from its n-th field on whose tag is from low to high; no bytes where there is none. It stands at the length of s less
 // that of the answer.
 pub fn nth_from(s: &[u8], low: u8, high: u8, n: usize) -> &[u8]
-    ensures { result.now ≡ fromNth low high n s.now }
+    ensures { result.now ≡ from_nth low high n s.now }
 {
     let mut t = first_from(s, low, high);
     let mut passed = 0;

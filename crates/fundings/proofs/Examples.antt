@@ -3,26 +3,26 @@ use Rattle.std.proofs.Common.{ℕ, ◌≡◌, refl, List, [], ◌∷◌, ◌++�
 use Prim.Native.String.{String}
 use mathlib.Core.List.{flat_map}
 use Rattle.laws.specs.Lists.{any, all, filter}
-use Rattle.laws.specs.Texts.{sameBytes, bytes, known}
-use Rattle.tags.specs.Tag.{Entry, Parameter, Limits, Guard, ExpressionStatement, InAsset, Member, Call, Checked, Eq, Lt, composite, isExpression, isStatement, isWrapper}
-use Rattle.fields.specs.Field.{fields, fieldsTo, nth, row, fieldsFrom, size, sizes, placed, placedFrom, place_of}
-use Rattle.fields.proofs.Writing.{write, name, typeName, identifier}
+use Rattle.laws.specs.Texts.{same_bytes, bytes, known}
+use Rattle.tags.specs.Tag.{Entry, Parameter, Limits, Guard, ExpressionStatement, InAsset, Member, Call, Checked, Eq, Lt, composite, is_expression, is_statement, is_wrapper}
+use Rattle.fields.specs.Field.{fields, fields_to, nth, row, fields_from, size, sizes, placed, placed_from, place_of}
+use Rattle.fields.proofs.Writing.{write, name, type_name, identifier}
 use Rattle.model.specs.Model.{entries, params}
-use Rattle.walking.specs.Walking.{peel, peelFirst, peelPlace, peelFirstPlace, walk, walkParts, stmtExprs, bodyExprs, exprs, ident, method, receiver, assetAmountBacker, isAssetParameter, assetParams}
-use Rattle.conditions.specs.Conditions.{splitAnd, splitEach, splitFirst, negated, negatedEach, negatedFirst, conditionsOf, requiredConditions, opposite, operator}
-use Rattle.tokens.specs.Tokens.{single, besideInAsset, tokenNamed, tokensNamed, isInflow, isCredit, isFunding}
-use Rattle.tokens.specs.Numbers.{tokenOf, joined, joinedAll, conditionNumber, tokensNumber}
-use Rattle.tokens.specs.Place.{besidePlace, foundIn, foundOf, firstPlace}
-use Rattle.fundings.specs.FundingTokens.{funds, ledgerFundingTokens, fundingToken}
-use Rattle.fundings.specs.Fundings.{isFundingCall, numbersOf, fundingsOf, fundings, foundWith, foundThrough}
-use Rattle.fundings.specs.Place.{fundingPlace}
+use Rattle.walking.specs.Walking.{peel, peel_first, peel_place, peel_first_place, walk, walk_parts, stmt_exprs, body_exprs, exprs, ident, method, receiver, asset_amount_backer, is_asset_parameter, asset_params}
+use Rattle.conditions.specs.Conditions.{split_and, split_each, split_first, negated, negated_each, negated_first, conditions_of, required_conditions, opposite, operator}
+use Rattle.tokens.specs.Tokens.{single, beside_in_asset, token_named, tokens_named, is_inflow, is_credit, is_funding}
+use Rattle.tokens.specs.Numbers.{token_of, joined, joined_all, condition_number, tokens_number}
+use Rattle.tokens.specs.Place.{beside_place, found_in, found_of, first_place}
+use Rattle.fundings.specs.FundingTokens.{funds, ledger_funding_tokens, funding_token}
+use Rattle.fundings.specs.Fundings.{is_funding_call, numbers_of, fundings_of, fundings, found_with, found_through}
+use Rattle.fundings.specs.Place.{funding_place}
 
-abbrev inAsset : List ℕ
-inAsset = write InAsset []
+abbrev in_asset : List ℕ
+in_asset = write InAsset []
 
 -- in-asset == t
 abbrev holds : String → List ℕ
-holds t = write Eq (inAsset ++ identifier t)
+holds t = write Eq (in_asset ++ identifier t)
 
 abbrev x : List ℕ
 x = identifier "x"
@@ -31,7 +31,7 @@ abbrev entry : List ℕ → List ℕ
 entry c = write Entry (name "f" ++ c)
 
 abbrev asset : String → List ℕ
-asset p = write Parameter (name p ++ typeName "Q_Asset")
+asset p = write Parameter (name p ++ type_name "Q_Asset")
 
 abbrev limits : List ℕ → List ℕ
 limits e = write Limits e
@@ -53,8 +53,8 @@ abbrev credits : String → List ℕ → List ℕ
 credits how value = write ExpressionStatement (call "m" how (x ++ value))
 
 funded : List (List ℕ) → List (List ℕ)
-unfolding any all filter sameBytes known fields fieldsTo nth composite size sizes placed placedFrom row fieldsFrom flat_map isExpression isStatement isWrapper entries params peel peelFirst walk walkParts stmtExprs bodyExprs exprs ident method receiver assetAmountBacker isAssetParameter assetParams splitAnd splitEach splitFirst negated negatedEach negatedFirst conditionsOf requiredConditions opposite operator single besideInAsset tokenNamed tokensNamed isInflow isCredit isFunding funds ledgerFundingTokens fundingToken
-funded models = map (λ m. fundingToken (fields m) (bytes "m")) models
+unfolding any all filter same_bytes known fields fields_to nth composite size sizes placed placed_from row fields_from flat_map is_expression is_statement is_wrapper entries params peel peel_first walk walk_parts stmt_exprs body_exprs exprs ident method receiver asset_amount_backer is_asset_parameter asset_params split_and split_each split_first negated negated_each negated_first conditions_of required_conditions opposite operator single beside_in_asset token_named tokens_named is_inflow is_credit is_funding funds ledger_funding_tokens funding_token
+funded models = map (λ m. funding_token (fields m) (bytes "m")) models
 
 -- maps that T funds: by credit, set and insert, a wrapped amount, an extra argument, another map's token beside
 funding-one : funded
@@ -76,22 +76,22 @@ unfolding funded
 funding-none = refl
 
 -- the place of the first of two entries that fund the map
-funding-place : fundingPlace 100 (fields (entry x ++ (funding "T" (credits "credit" (amount "a")) ++ funding "T" (credits "set" (amount "a"))))) (bytes "m") ≡ 47
-unfolding any filter sameBytes known fields fieldsTo nth composite size sizes placed placedFrom place_of row fieldsFrom flat_map isExpression isStatement isWrapper entries params peel peelFirst peelPlace peelFirstPlace walk walkParts stmtExprs bodyExprs exprs ident method receiver assetAmountBacker isAssetParameter assetParams splitAnd splitEach splitFirst negated negatedEach negatedFirst conditionsOf requiredConditions opposite operator besideInAsset tokenNamed isInflow isCredit isFunding funds besidePlace foundIn foundOf firstPlace fundingPlace
+funding-place : funding_place 100 (fields (entry x ++ (funding "T" (credits "credit" (amount "a")) ++ funding "T" (credits "set" (amount "a"))))) (bytes "m") ≡ 47
+unfolding any filter same_bytes known fields fields_to nth composite size sizes placed placed_from place_of row fields_from flat_map is_expression is_statement is_wrapper entries params peel peel_first peel_place peel_first_place walk walk_parts stmt_exprs body_exprs exprs ident method receiver asset_amount_backer is_asset_parameter asset_params split_and split_each split_first negated negated_each negated_first conditions_of required_conditions opposite operator beside_in_asset token_named is_inflow is_credit is_funding funds beside_place found_in found_of first_place funding_place
 funding-place = refl
 
 -- the calls that fund some map, each with its place and what its entry names
 listed : List (List ℕ) → List (List ℕ)
-unfolding any all filter sameBytes known fields fieldsTo nth composite size sizes placed placedFrom row fieldsFrom flat_map isExpression isStatement isWrapper entries params peel peelFirst walk walkParts stmtExprs bodyExprs ident method receiver assetAmountBacker isAssetParameter assetParams splitAnd splitEach splitFirst negated negatedEach negatedFirst conditionsOf requiredConditions opposite operator besideInAsset tokenNamed isInflow isCredit tokenOf joined joinedAll conditionNumber tokensNumber isFundingCall numbersOf fundingsOf fundings
+unfolding any all filter same_bytes known fields fields_to nth composite size sizes placed placed_from row fields_from flat_map is_expression is_statement is_wrapper entries params peel peel_first walk walk_parts stmt_exprs body_exprs ident method receiver asset_amount_backer is_asset_parameter asset_params split_and split_each split_first negated negated_each negated_first conditions_of required_conditions opposite operator beside_in_asset token_named is_inflow is_credit token_of joined joined_all condition_number tokens_number is_funding_call numbers_of fundings_of fundings
 listed files = map fundings files
 
-abbrev creditsOther : List ℕ
-creditsOther = write ExpressionStatement (call "w" "credit" (x ++ amount "a"))
+abbrev credits_other : List ℕ
+credits_other = write ExpressionStatement (call "w" "credit" (x ++ amount "a"))
 
 -- an entry that names one, none, two; two maps of one entry; two entries; a plain parameter, a debit, a first argument, no entry
 listing : listed
     (funding "T" (credits "credit" (amount "a")) ∷ entry (asset "a" ++ credits "set" (amount "a")) ∷ funding "T" (guard (holds "U") ++ credits "credit" (amount "a"))
-    ∷ funding "T" (credits "credit" (amount "a") ++ creditsOther) ∷ (funding "T" (credits "credit" (amount "a")) ++ funding "U" creditsOther)
+    ∷ funding "T" (credits "credit" (amount "a") ++ credits_other) ∷ (funding "T" (credits "credit" (amount "a")) ++ funding "U" credits_other)
     ∷ funding "T" (credits "credit" (amount "b")) ∷ funding "T" (credits "debit" (amount "a")) ∷ funding "T" (write ExpressionStatement (call "m" "credit" (amount "a"))) ∷ [] ∷ [])
     ≡ (40 ∷ 29 ∷ []) ∷ (27 ∷ 0 ∷ []) ∷ (53 ∷ 1 ∷ []) ∷ (40 ∷ 29 ∷ 82 ∷ 29 ∷ []) ∷ (40 ∷ 29 ∷ 119 ∷ 108 ∷ []) ∷ [] ∷ [] ∷ [] ∷ [] ∷ []
 unfolding listed
@@ -99,12 +99,12 @@ listing = refl
 
 -- the maps m, w and n of a file, by going through its calls
 gone : List ℕ → List (List ℕ)
-unfolding listed foundWith foundThrough
-gone file = map (λ m. tokenOf file (foundThrough file m 0 (fundings file))) (bytes "m" ∷ bytes "w" ∷ bytes "n" ∷ [])
+unfolding listed found_with found_through
+gone file = map (λ m. token_of file (found_through file m 0 (fundings file))) (bytes "m" ∷ bytes "w" ∷ bytes "n" ∷ [])
 
 -- two maps of two entries, of one; two entries that name the same, and two that do not; an entry that names none beside one that names one
 going : map gone
-    ((funding "T" (credits "credit" (amount "a")) ++ funding "U" creditsOther) ∷ funding "T" (credits "credit" (amount "a") ++ creditsOther)
+    ((funding "T" (credits "credit" (amount "a")) ++ funding "U" credits_other) ∷ funding "T" (credits "credit" (amount "a") ++ credits_other)
     ∷ (funding "T" (credits "credit" (amount "a")) ++ funding "T" (credits "set" (amount "a"))) ∷ (funding "T" (credits "credit" (amount "a")) ++ funding "U" (credits "set" (amount "a")))
     ∷ (entry (asset "a" ++ credits "set" (amount "a")) ++ funding "T" (credits "credit" (amount "a"))) ∷ [])
     ≡ (bytes "T" ∷ bytes "U" ∷ [] ∷ []) ∷ (bytes "T" ∷ bytes "T" ∷ [] ∷ []) ∷ (bytes "T" ∷ [] ∷ [] ∷ []) ∷ ([] ∷ [] ∷ [] ∷ []) ∷ (bytes "T" ∷ [] ∷ [] ∷ []) ∷ []

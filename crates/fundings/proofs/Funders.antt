@@ -4,17 +4,17 @@ use Rattle.std.proofs.Common.{ℕ, ◌-◌, ◌≤◌, ◌<◌, ◌≡◌, refl,
 use mathlib.Core.List.{flat_map}
 use Rattle.laws.specs.Lists.{filter}
 use Rattle.tags.specs.Tag.{Entry}
-use Rattle.fields.specs.Field.{fields, whole, after, front, fieldsFrom}
+use Rattle.fields.specs.Field.{fields, whole, after, front, fields_from}
 use Rattle.fields.proofs.Reading.{after_less}
 use Rattle.fields.proofs.Rows.{placed_row}
 use Rattle.model.specs.Model.{entries}
-use Rattle.conditions.specs.Conditions.{requiredConditions}
-use Rattle.tokens.specs.Tokens.{tokensNamed}
-use Rattle.tokens.specs.Numbers.{tokenOf, joinedAll, conditionNumber, Standing}
+use Rattle.conditions.specs.Conditions.{required_conditions}
+use Rattle.tokens.specs.Tokens.{tokens_named}
+use Rattle.tokens.specs.Numbers.{token_of, joined_all, condition_number, Standing}
 use Rattle.tokens.proofs.Joining.{Means, means-token, means-small, means-several}
 use Rattle.tokens.proofs.Numbers.{entry-joined}
-use Rattle.fundings.specs.FundingTokens.{funds, ledgerFundingTokens, fundingToken}
-use Rattle.fundings.specs.Fundings.{fundingFrom}
+use Rattle.fundings.specs.FundingTokens.{funds, ledger_funding_tokens, funding_token}
+use Rattle.fundings.specs.Fundings.{funding_from}
 use Rattle.fields.proofs.Tails.{tail-after}
 
 -- t starts with an entry that funds the map, or has no whole field
@@ -23,11 +23,11 @@ pub record Ledger (file m : List ℕ) (found : ℕ) (t : List ℕ) : Type 0 wher
   pub tail : t ≡ drop (length file - length t) file
   pub passed : List (List ℕ)
   pub means : Means file found passed
-  pub left : passed ++ flat_map tokensNamed (fundingFrom m t) ≡ ledgerFundingTokens (fields file) m
+  pub left : passed ++ flat_map tokens_named (funding_from m t) ≡ ledger_funding_tokens (fields file) m
 
-pub ledger-all : (file m t : List ℕ) → filter (funds m) (fieldsFrom Entry Entry (fields file)) ≡ fundingFrom m t → length t ≤ length file →
+pub ledger-all : (file m t : List ℕ) → filter (funds m) (fields_from Entry Entry (fields file)) ≡ funding_from m t → length t ≤ length file →
     t ≡ drop (length file - length t) file → Ledger file m 0 t
-unfolding ledgerFundingTokens entries
+unfolding ledger_funding_tokens entries
 ledger-all file m t e h d = record {
   within = h;
   tail = d;
@@ -37,55 +37,55 @@ ledger-all file m t e h d = record {
 }
 
 -- the set found so far, with the conditions of the entry at n
-abbrev pub foundWithin : List ℕ → ℕ → ℕ → ℕ
-foundWithin file n found = joinedAll file found (map (conditionNumber n) (requiredConditions (front (drop n file))))
+abbrev pub found_within : List ℕ → ℕ → ℕ → ℕ
+found_within file n found = joined_all file found (map (condition_number n) (required_conditions (front (drop n file))))
 
 module _ (file m : List ℕ) (found : ℕ) (t : List ℕ) (i : Ledger file m found t) where
   module _ (w : whole t ≡ false) where
-    all-passed : Means file found (ledgerFundingTokens (fields file) m)
+    all-passed : Means file found (ledger_funding_tokens (fields file) m)
     unfolding flat_map
     all-passed = rw (← (rw (w, append-nil i.passed) at i.left)) i.means
 
-    pub ledger-token : tokenOf file found ≡ fundingToken (fields file) m
-    unfolding fundingToken
-    ledger-token = means-token file found (ledgerFundingTokens (fields file) m) all-passed
+    pub ledger-token : token_of file found ≡ funding_token (fields file) m
+    unfolding funding_token
+    ledger-token = means-token file found (ledger_funding_tokens (fields file) m) all-passed
 
     pub ledger-small : length file ≤ 32768 → found < 65536
-    ledger-small h = means-small file h found (ledgerFundingTokens (fields file) m) all-passed
+    ledger-small h = means-small file h found (ledger_funding_tokens (fields file) m) all-passed
 
   pub ledger-here : length file ≤ 32768 → Standing file (length file - length t) 0
   ledger-here h = record { short = h; within = omega arith; few = omega arith }
 
   module _ (w : whole t ≡ true) where
     abbrev behind : List (List ℕ)
-    behind = flat_map tokensNamed (filter (funds m) (fieldsFrom Entry Entry (fields (after t))))
+    behind = flat_map tokens_named (filter (funds m) (fields_from Entry Entry (fields (after t))))
 
     -- with those of the entry
-    entry-passed : Means file (foundWithin file (length file - length t) found) (i.passed ++ tokensNamed (front t))
+    entry-passed : Means file (found_within file (length file - length t) found) (i.passed ++ tokens_named (front t))
     entry-passed =
         rw (← i.tail)
         (entry-joined file (record { place = length file - length t; this = front t }) (ap (λ x. front x) (sym i.tail)) found i.passed i.means)
 
-    rest-left : (i.passed ++ tokensNamed (front t)) ++ behind ≡ ledgerFundingTokens (fields file) m
+    rest-left : (i.passed ++ tokens_named (front t)) ++ behind ≡ ledger_funding_tokens (fields file) m
     unfolding flat_map
-    rest-left = append_assoc i.passed (tokensNamed (front t)) behind ∙ (rw w at i.left)
+    rest-left = append_assoc i.passed (tokens_named (front t)) behind ∙ (rw w at i.left)
 
-    pub ledger-several : foundWithin file (length file - length t) found ≡ 1 → tokenOf file 1 ≡ fundingToken (fields file) m
-    unfolding fundingToken
+    pub ledger-several : found_within file (length file - length t) found ≡ 1 → token_of file 1 ≡ funding_token (fields file) m
+    unfolding funding_token
     ledger-several e =
-        means-token file 1 (ledgerFundingTokens (fields file) m)
-        (rw (← rest-left) (means-several file (i.passed ++ tokensNamed (front t)) behind (rw e at entry-passed)))
+        means-token file 1 (ledger_funding_tokens (fields file) m)
+        (rw (← rest-left) (means-several file (i.passed ++ tokens_named (front t)) behind (rw e at entry-passed)))
 
     module _ (y u : List ℕ) (e : y ≡ after t) (h : length u ≤ length y) where
       pub ledger-falls : length u < length t
       ledger-falls = omega (arith, after_less t y w e)
 
-      pub ledger-next : (k : ℕ) → k ≡ foundWithin file (length file - length t) found → u ≡ drop (length y - length u) y →
-          filter (funds m) (fieldsFrom Entry Entry (fields y)) ≡ fundingFrom m u → Ledger file m k u
+      pub ledger-next : (k : ℕ) → k ≡ found_within file (length file - length t) found → u ≡ drop (length y - length u) y →
+          filter (funds m) (fields_from Entry Entry (fields y)) ≡ funding_from m u → Ledger file m k u
       ledger-next k f d g = record {
         within = omega (arith, ledger-falls, i.within);
         tail = tail-after file t y u i.tail e d;
-        passed = i.passed ++ tokensNamed (front t);
+        passed = i.passed ++ tokens_named (front t);
         means = rw f entry-passed;
         left = rw (← g, e) rest-left;
       }

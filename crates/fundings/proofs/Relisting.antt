@@ -5,64 +5,64 @@ use lib.Seq.{length-sets}
 use Rattle.laws.proofs.Slices.{drop-rest}
 use Rattle.fields.specs.Table.{Listed}
 use Rattle.fields.proofs.Tables.{listed-front}
-use Rattle.tokens.specs.Numbers.{notYet}
+use Rattle.tokens.specs.Numbers.{not_yet}
 use Rattle.fundings.specs.Fundings.{fundings}
-use Rattle.fundings.specs.Funded.{Funded, Relisted, rememberedAt, stateFields, listedFrom, listedRoom, factsSize}
+use Rattle.fundings.specs.Funded.{Funded, Relisted, remembered_at, state_fields, listed_from, listed_room, facts_size}
 
 -- a front that is kept
-kept-front : (facts last : List ℕ) → ((i : ℕ) → i < stateFields → get_or last (1 + i) 0 ≡ get_or facts (1 + i) 0) → (i : ℕ) → rememberedAt last i ≡ rememberedAt facts i
-unfolding rememberedAt
-kept-front facts last h i = go (ltb i stateFields) refl
+kept-front : (facts last : List ℕ) → ((i : ℕ) → i < state_fields → get_or last (1 + i) 0 ≡ get_or facts (1 + i) 0) → (i : ℕ) → remembered_at last i ≡ remembered_at facts i
+unfolding remembered_at
+kept-front facts last h i = go (ltb i state_fields) refl
   where
-    go : (b : Bool) → ltb i stateFields ≡ b → rememberedAt last i ≡ rememberedAt facts i
-    go true e = rw (e, h i (ltb-true i stateFields e))
+    go : (b : Bool) → ltb i state_fields ≡ b → remembered_at last i ≡ remembered_at facts i
+    go true e = rw (e, h i (ltb-true i state_fields e))
     go false e = rw e
 
-module _ (file facts : List ℕ) (w : Funded file facts) (u : List ℕ) (r : ℕ) (l : Listed (fundings file) (take (length facts - listedFrom) (drop listedFrom facts)) 0 u r) where
+module _ (file facts : List ℕ) (w : Funded file facts) (u : List ℕ) (r : ℕ) (l : Listed (fundings file) (take (length facts - listed_from) (drop listed_from facts)) 0 u r) where
   abbrev last : List ℕ
-  last = take listedFrom facts ++ (u ++ drop (length facts - listedFrom) (drop listedFrom facts))
+  last = take listed_from facts ++ (u ++ drop (length facts - listed_from) (drop listed_from facts))
 
-  front_long : length (take listedFrom facts) ≡ listedFrom
-  front_long = length-take-le listedFrom facts (omega (arith, w.long))
+  front_long : length (take listed_from facts) ≡ listed_from
+  front_long = length-take-le listed_from facts (omega (arith, w.long))
 
-  length-lent : length u ≡ length (take (length facts - listedFrom) (drop listedFrom facts))
-  length-lent = rw l.kept (length-sets (take (length facts - listedFrom) (drop listedFrom facts)) 0 (fundings file))
+  length-lent : length u ≡ length (take (length facts - listed_from) (drop listed_from facts))
+  length-lent = rw l.kept (length-sets (take (length facts - listed_from) (drop listed_from facts)) 0 (fundings file))
 
-  wide : length u ≡ listedRoom
-  wide = length-lent ∙ rw (drop-rest facts listedFrom, length-drop) (omega (arith, w.long))
+  wide : length u ≡ listed_room
+  wide = length-lent ∙ rw (drop-rest facts listed_from, length-drop) (omega (arith, w.long))
 
-  behind : drop listedFrom last ≡ u
+  behind : drop listed_from last ≡ u
   behind =
-      drop_at (take listedFrom facts) (u ++ drop (length facts - listedFrom) (drop listedFrom facts)) listedFrom front_long
-      ∙ rw (drop_of_length-le (drop listedFrom facts) {i = length facts - listedFrom} (rw length-drop (omega arith))) (append-nil u)
+      drop_at (take listed_from facts) (u ++ drop (length facts - listed_from) (drop listed_from facts)) listed_from front_long
+      ∙ rw (drop_of_length-le (drop listed_from facts) {i = length facts - listed_from} (rw length-drop (omega arith))) (append-nil u)
 
-  before : (j : ℕ) → j < listedFrom → get_or last j 0 ≡ get_or facts j 0
+  before : (j : ℕ) → j < listed_from → get_or last j 0 ≡ get_or facts j 0
   before j h =
-      get_or-append (take listedFrom facts) (u ++ drop (length facts - listedFrom) (drop listedFrom facts)) 0 j (rw front_long h)
-      ∙ get_or-take listedFrom facts j 0 h
+      get_or-append (take listed_from facts) (u ++ drop (length facts - listed_from) (drop listed_from facts)) 0 j (rw front_long h)
+      ∙ get_or-take listed_from facts j 0 h
 
-  long : length last ≡ factsSize
+  long : length last ≡ facts_size
   long =
-      let e : length (drop (length facts - listedFrom) (drop listedFrom facts)) ≡ 0 = rw (length-drop, length-drop) (omega arith) in
+      let e : length (drop (length facts - listed_from) (drop listed_from facts)) ≡ 0 = rw (length-drop, length-drop) (omega arith) in
       rw (length-append, length-append, front_long, wide, e)
 
-  pub relisted-none : (n : ℕ) → n ≡ get_or facts 0 0 → n ≡ notYet → Relisted file facts last
+  pub relisted-none : (n : ℕ) → n ≡ get_or facts 0 0 → n ≡ not_yet → Relisted file facts last
   relisted-none n e h =
-      let z : get_or last 0 0 ≡ notYet = before 0 (omega arith) ∙ sym e ∙ h in
+      let z : get_or last 0 0 ≡ not_yet = before 0 (omega arith) ∙ sym e ∙ h in
       record {
         funded = record { long = long; room = λ o. absurd (o z); listed = λ o. absurd (o z) };
         kept = kept-front facts last (λ i k. before (1 + i) (omega (arith, k)));
       }
 
-  pub relisted-all : r ≤ listedRoom → Relisted file facts (set last 0 r)
+  pub relisted-all : r ≤ listed_room → Relisted file facts (set last 0 r)
   relisted-all h =
       let z : get_or (set last 0 r) 0 0 ≡ r = get_or-set_same last 0 r 0 (rw long (omega arith)) in
       record {
         funded = record {
           long = length-set last 0 r ∙ long;
           room = λ o. rw z h;
-          listed = λ o. rw (z, drop-set-lt listedFrom last 0 r (omega arith), behind)
-              (listed-front (fundings file) (take (length facts - listedFrom) (drop listedFrom facts)) u r l (rw (← length-lent, wide) h));
+          listed = λ o. rw (z, drop-set-lt listed_from last 0 r (omega arith), behind)
+              (listed-front (fundings file) (take (length facts - listed_from) (drop listed_from facts)) u r l (rw (← length-lent, wide) h));
         };
         kept = kept-front facts (set last 0 r)
             (λ i k. get_or-set_other last 0 (1 + i) r 0 (λ e. absurd (omega (arith, e))) ∙ before (1 + i) (omega (arith, k)));

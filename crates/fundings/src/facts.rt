@@ -3,9 +3,9 @@
 // for each state field, of its token; and behind them what is listed.
 ghost use Rattle.std.specs.Prelude.{◌≡◌, ◌≤◌, ◌<◌, length, replicate};
 ghost use Rattle.fields.specs.Field.{fields};
-ghost use Rattle.tokens.specs.Numbers.{tokenOf, notYet};
-ghost use Rattle.fundings.specs.FundingTokens.{fundingToken};
-ghost use Rattle.fundings.specs.Funded.{Funded, Relisted, factsSize};
+ghost use Rattle.tokens.specs.Numbers.{token_of, not_yet};
+ghost use Rattle.fundings.specs.FundingTokens.{funding_token};
+ghost use Rattle.fundings.specs.Funded.{Funded, Relisted, facts_size};
 
 use super::ledger::{found_through, list_fundings};
 use super::token::ledger_funding_number;
@@ -26,7 +26,7 @@ pub const FACTS: usize = 4910;
 
 // The table at the start, when nothing is worked out yet.
 pub fn nothing_known() -> [u16; FACTS]
-    ensures { result ≡ replicate factsSize notYet }
+    ensures { result ≡ replicate facts_size not_yet }
 {
     [NOT_YET as u16; FACTS]
 }
@@ -36,7 +36,7 @@ pub fn nothing_known() -> [u16; FACTS]
 pub fn funding_number(file: &[u8], map: &[u8], facts: &[u16]) -> usize
     requires short { length file.now ≤ 32768 }
     requires funded { Funded file.now facts.now }
-    ensures reads { tokenOf file.now result ≡ fundingToken (fields file.now) map.now }
+    ensures reads { token_of file.now result ≡ funding_token (fields file.now) map.now }
     ensures small { result < 65536 }
 {
     let count = number_at(facts, 0);
@@ -50,7 +50,7 @@ pub fn funding_number(file: &[u8], map: &[u8], facts: &[u16]) -> usize
 pub fn funded_token<'a>(file: &'a [u8], map: &[u8], facts: &[u16]) -> &'a [u8]
     requires short { length file.now ≤ 32768 }
     requires funded { Funded file.now facts.now }
-    ensures { result.now ≡ fundingToken (fields file.now) map.now }
+    ensures { result.now ≡ funding_token (fields file.now) map.now }
 {
     token_of(file, funding_number(file, map, facts))
 }

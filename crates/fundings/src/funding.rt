@@ -3,9 +3,9 @@
 ghost use Rattle.std.specs.Prelude.{◌≡◌, ◌-◌, ◌≤◌, length, drop};
 ghost use Rattle.laws.specs.Lists.{filter};
 ghost use Rattle.tags.specs.Tag.{Entry};
-ghost use Rattle.fields.specs.Field.{fields, fieldsFrom, front};
+ghost use Rattle.fields.specs.Field.{fields, fields_from, front};
 ghost use Rattle.fundings.specs.FundingTokens.{funds};
-ghost use Rattle.fundings.specs.Fundings.{fundingFrom};
+ghost use Rattle.fundings.specs.Fundings.{funding_from};
 
 use fields::bytes::skip;
 use fields::front::{after_front, first_from, is_whole};
@@ -34,7 +34,7 @@ fn entry_funds(s: &[u8], map: &[u8]) -> bool
 // s from its first entry on that funds the map; no whole field where there is none.
 pub fn first_funding<'a>(s: &'a [u8], map: &[u8]) -> &'a [u8]
     requires { length s.now ≤ 32768 }
-    ensures found { filter (funds map.now) (fieldsFrom Entry Entry (fields s.now)) ≡ fundingFrom map.now result.now }
+    ensures found { filter (funds map.now) (fields_from Entry Entry (fields s.now)) ≡ funding_from map.now result.now }
     ensures within { length result.now ≤ length s.now }
     ensures tail { result.now ≡ drop (length s.now - length result.now) s.now }
 {

@@ -7,10 +7,10 @@ ghost use Rattle.laws.specs.Lists.{any};
 ghost use Rattle.tags.specs.Tag.{Call};
 ghost use Rattle.fields.specs.Field.{front};
 ghost use Rattle.fields.specs.Table.{Listed};
-ghost use Rattle.walking.specs.Walking.{bodyExprs};
+ghost use Rattle.walking.specs.Walking.{body_exprs};
 ghost use Rattle.walking.specs.Table.{placed_at, places_of};
 ghost use Rattle.tokens.specs.Numbers.{Standing};
-ghost use Rattle.fundings.specs.Fundings.{isFundingCall, fundingsOf, fundings, foundWith, foundThrough, fundingCallAt, numbersAt, Calls};
+ghost use Rattle.fundings.specs.Fundings.{is_funding_call, fundings_of, fundings, found_with, found_through, funding_call_at, numbers_at, Calls};
 
 use fields::bytes::{same_bytes, skip};
 use fields::front::{after_front, first_from, is_whole, part_of};
@@ -25,7 +25,7 @@ use walking::walk::{MOST_FIELDS, list_body};
 
 // Whether the call at the front of s funds some map.
 fn is_funding_call(entry: &[u8], s: &[u8]) -> bool
-    ensures { result ≡ isFundingCall (front entry.now) (front s.now) }
+    ensures { result ≡ is_funding_call (front entry.now) (front s.now) }
 {
     if !is_credit(s) {
         return false;
@@ -35,7 +35,7 @@ fn is_funding_call(entry: &[u8], s: &[u8]) -> bool
 
 // Whether one of the calls at the places of a table does.
 fn has_funding_call(file: &[u8], entry: &[u8], calls: &[u16]) -> bool
-    ensures { result ≡ any (fundingCallAt file.now (front entry.now)) calls.now }
+    ensures { result ≡ any (funding_call_at file.now (front entry.now)) calls.now }
 {
     let mut i = 0;
     while i < calls.len() {
@@ -57,7 +57,7 @@ fn list_call(
     n: usize,
 ) -> usize
     requires { (number < 65536) × (n ≤ 131072) }
-    ensures { Listed (numbersAt file.now (front entry.now) number call) table.old n table.new result }
+    ensures { Listed (numbers_at file.now (front entry.now) number call) table.old n table.new result }
 {
     let hit = is_funding_call(entry, skip(file, call));
     let m = note(hit, call % 65536, table, n);
@@ -74,7 +74,7 @@ fn list_calls(
     n: usize,
 ) -> usize
     requires { Calls calls.now number n }
-    ensures { Listed (flat_map (numbersAt file.now (front entry.now) number) calls.now) table.old n table.new result }
+    ensures { Listed (flat_map (numbers_at file.now (front entry.now) number) calls.now) table.old n table.new result }
 {
     let mut i = 0;
     let mut m = n;
@@ -89,8 +89,8 @@ fn list_calls(
 // asks for it.
 fn list_calls_of(file: &[u8], place: usize, calls: &[u16], table: &mut [u16], n: usize) -> usize
     requires standing { Standing file.now place n }
-    requires listed { calls.now ≡ places_of Call (bodyExprs (placed_at file.now place)) }
-    ensures { Listed (fundingsOf file.now (placed_at file.now place)) table.old n table.new result }
+    requires listed { calls.now ≡ places_of Call (body_exprs (placed_at file.now place)) }
+    ensures { Listed (fundings_of file.now (placed_at file.now place)) table.old n table.new result }
 {
     let entry = skip(file, place);
     if !has_funding_call(file, entry, calls) {
@@ -103,7 +103,7 @@ fn list_calls_of(file: &[u8], place: usize, calls: &[u16], table: &mut [u16], n:
 // The same with no table of its calls at hand. An entry without asset parameters funds nothing, so its body is not walked.
 fn list_entry(file: &[u8], place: usize, table: &mut [u16], n: usize) -> usize
     requires { Standing file.now place n }
-    ensures { Listed (fundingsOf file.now (placed_at file.now place)) table.old n table.new result }
+    ensures { Listed (fundings_of file.now (placed_at file.now place)) table.old n table.new result }
 {
     if count_asset_parameters(skip(file, place)) == 0 {
         return n;
@@ -136,7 +136,7 @@ pub fn list_fundings(file: &[u8], table: &mut [u16]) -> usize
 
 // The set found so far with that of a call, where the call is one of the map. The names are compared first.
 fn found_with(file: &[u8], map: &[u8], found: usize, call: usize, number: usize) -> usize
-    ensures { result ≡ foundWith file.now map.now found call number }
+    ensures { result ≡ found_with file.now map.now found call number }
 {
     if !same_bytes(receiver(skip(file, call)), map) {
         return found;
@@ -146,7 +146,7 @@ fn found_with(file: &[u8], map: &[u8], found: usize, call: usize, number: usize)
 
 // The set of the tokens that fund the map, by the calls that list_fundings wrote.
 pub fn found_through(file: &[u8], map: &[u8], fundings: &[u16]) -> usize
-    ensures { result ≡ foundThrough file.now map.now 0 fundings.now }
+    ensures { result ≡ found_through file.now map.now 0 fundings.now }
 {
     let mut found = 0;
     let mut i = 0;

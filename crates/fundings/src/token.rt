@@ -2,9 +2,9 @@
 // The token that funds a map. It is a part of the file, and no token is the empty part.
 ghost use Rattle.std.specs.Prelude.{◌≡◌, ◌≤◌, ◌<◌, length, take, drop};
 ghost use Rattle.fields.specs.Field.{fields};
-ghost use Rattle.tokens.specs.Numbers.{tokenOf};
-ghost use Rattle.fundings.specs.FundingTokens.{fundingToken};
-ghost use Rattle.fundings.specs.Place.{fundingPlace};
+ghost use Rattle.tokens.specs.Numbers.{token_of};
+ghost use Rattle.fundings.specs.FundingTokens.{funding_token};
+ghost use Rattle.fundings.specs.Place.{funding_place};
 
 use super::funding::first_funding;
 use conditions::list::list_conditions;
@@ -16,7 +16,7 @@ use walking::walk::MOST_FIELDS;
 // The set of the tokens named by the entries that fund the map, as far as it is told apart: the search ends where two differ.
 pub fn ledger_funding_number(file: &[u8], map: &[u8]) -> usize
     requires { length file.now ≤ 32768 }
-    ensures reads { tokenOf file.now result ≡ fundingToken (fields file.now) map.now }
+    ensures reads { token_of file.now result ≡ funding_token (fields file.now) map.now }
     ensures small { result < 65536 }
 {
     let mut found = 0;
@@ -45,8 +45,8 @@ pub fn ledger_funding_number(file: &[u8], map: &[u8]) -> usize
 // The one token named by the entries that fund the map; none where they name none, or two that differ.
 pub fn ledger_funding_token<'a>(file: &'a [u8], map: &[u8]) -> &'a [u8]
     requires { length file.now ≤ 32768 }
-    ensures reads { result.now ≡ fundingToken (fields file.now) map.now }
-    ensures shows { result.now ≡ take (length result.now) (drop (fundingPlace (length file.now) (fields file.now) map.now) file.now) }
+    ensures reads { result.now ≡ funding_token (fields file.now) map.now }
+    ensures shows { result.now ≡ take (length result.now) (drop (funding_place (length file.now) (fields file.now) map.now) file.now) }
 {
     token_of(file, ledger_funding_number(file, map))
 }

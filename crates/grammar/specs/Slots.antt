@@ -6,15 +6,15 @@ use Rattle.grammar.specs.declared.Advanced.{Advanced}
 use Rattle.grammar.specs.declared.Advanced.TheVariants.{To, Refused}
 
 -- up to the first 0, which is no slot
-unfoldable pub upToZero : List ℕ → List ℕ
-upToZero [] = []
-upToZero (zero ∷ ss) = []
-upToZero (suc s ∷ ss) = suc s ∷ upToZero ss
+unfoldable pub up_to_zero : List ℕ → List ℕ
+up_to_zero [] = []
+up_to_zero (zero ∷ ss) = []
+up_to_zero (suc s ∷ ss) = suc s ∷ up_to_zero ss
 
-abbrev pub slotList : Slots → List ℕ
-slotList s = upToZero (s.first ∷ s.second ∷ s.third ∷ s.fourth ∷ [])
+abbrev pub slot_list : Slots → List ℕ
+slot_list s = up_to_zero (s.first ∷ s.second ∷ s.third ∷ s.fourth ∷ [])
 
 -- the answer to question 3: the slots that are left, or none
-abbrev pub leftBy : Advanced → Option (List ℕ)
-leftBy (To s) = some (slotList s)
-leftBy Refused = none
+abbrev pub left_by : Advanced → Option (List ℕ)
+left_by (To s) = some (slot_list s)
+left_by Refused = none

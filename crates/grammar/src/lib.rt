@@ -1,8 +1,8 @@
 // Which tags may stand where, and which parts are needed: the rows of the grammar.
 ghost use Rattle.std.specs.Prelude.{◌≡◌, Bool, [], ◌∷◌, ◌<◌};
-ghost use Rattle.tags.specs.Tag.{isExpression, isStatement};
-ghost use Rattle.grammar.specs.Grammar.{inClass, takes, slots_of, advance, complete};
-ghost use Rattle.grammar.specs.Slots.{upToZero, slotList, leftBy};
+ghost use Rattle.tags.specs.Tag.{is_expression, is_statement};
+ghost use Rattle.grammar.specs.Grammar.{in_class, takes, slots_of, advance, complete};
+ghost use Rattle.grammar.specs.Slots.{up_to_zero, slot_list, left_by};
 
 use tags::{
     CALL, EMIT, ENTRY, GENESIS, LET, MEMBER, NAME, NOT, OR, PARAMETER, STATE, TYPE_NAME, is_assign,
@@ -50,7 +50,7 @@ pub enum Advanced {
 
 // Whether a tag is of a class.
 pub fn in_class(class: u8, tag: u8) -> bool
-    ensures { result ≡ inClass class tag }
+    ensures { result ≡ in_class class tag }
 {
     (class == 1) & (tag == NAME)
         | (class == 2) & (tag == TYPE_NAME)
@@ -62,7 +62,7 @@ pub fn in_class(class: u8, tag: u8) -> bool
 }
 
 fn row(first: u8, second: u8, third: u8, fourth: u8) -> Slots
-    ensures { slotList result ≡ upToZero (first ∷ second ∷ third ∷ fourth ∷ []) }
+    ensures { slot_list result ≡ up_to_zero (first ∷ second ∷ third ∷ fourth ∷ []) }
 {
     Slots {
         first: first,
@@ -74,8 +74,8 @@ fn row(first: u8, second: u8, third: u8, fourth: u8) -> Slots
 
 // 30 to 3D, 40 to 4D
 fn expression_slots(tag: u8) -> Slots
-    requires { isExpression tag ≡ Bool.true }
-    ensures { slotList result ≡ slots_of tag }
+    requires { is_expression tag ≡ Bool.true }
+    ensures { slot_list result ≡ slots_of tag }
 {
     if OR <= tag {
         return row(EXPRESSIONS, EXPRESSIONS, 0, 0);
@@ -94,8 +94,8 @@ fn expression_slots(tag: u8) -> Slots
 
 // 10 to 16
 fn statement_slots(tag: u8) -> Slots
-    requires { isStatement tag ≡ Bool.true }
-    ensures { slotList result ≡ slots_of tag }
+    requires { is_statement tag ≡ Bool.true }
+    ensures { slot_list result ≡ slots_of tag }
 {
     if is_assign(tag) {
         return row(EXPRESSIONS, EXPRESSIONS, 0, 0);
@@ -111,8 +111,8 @@ fn statement_slots(tag: u8) -> Slots
 
 // 01 to 06, 00 for the file itself, and none for the others
 fn item_slots(tag: u8) -> Slots
-    requires { (isExpression tag ≡ Bool.false) × (isStatement tag ≡ Bool.false) }
-    ensures { slotList result ≡ slots_of tag }
+    requires { (is_expression tag ≡ Bool.false) × (is_statement tag ≡ Bool.false) }
+    ensures { slot_list result ≡ slots_of tag }
 {
     if tag == 0 {
         return row(MANY_ITEMS, 0, 0, 0);
@@ -137,7 +137,7 @@ fn item_slots(tag: u8) -> Slots
 
 // The slots for the parts of a field.
 pub fn slots_of(tag: u8) -> Slots
-    ensures { slotList result ≡ slots_of tag }
+    ensures { slot_list result ≡ slots_of tag }
 {
     if is_expression(tag) {
         return expression_slots(tag);
@@ -151,7 +151,7 @@ pub fn slots_of(tag: u8) -> Slots
 impl Slots {
     // The slots behind the first.
     fn behind(self) -> Slots
-        ensures { slotList result ≡ upToZero (self.second ∷ self.third ∷ self.fourth ∷ 0 ∷ []) }
+        ensures { slot_list result ≡ up_to_zero (self.second ∷ self.third ∷ self.fourth ∷ 0 ∷ []) }
     {
         Slots {
             first: self.second,
@@ -163,7 +163,7 @@ impl Slots {
 
     // Question 3: the slots that are left behind a part with this tag, if it may stand here.
     pub fn advance(self, tag: u8) -> Advanced
-        ensures { leftBy result ≡ advance (slotList self) tag }
+        ensures { left_by result ≡ advance (slot_list self) tag }
     {
         let mut left = self;
         while left.first != 0 {
@@ -185,7 +185,7 @@ impl Slots {
 
     // Question 6: was every needed part there?
     pub fn is_complete(self) -> bool
-        ensures { result ≡ complete (slotList self) }
+        ensures { result ≡ complete (slot_list self) }
     {
         let mut left = self;
         while left.first != 0 {

@@ -7,21 +7,21 @@ use Rattle.laws.specs.Lists.{filter}
 use Rattle.fields.specs.Table.{Listed}
 use Rattle.fields.specs.Field.{front}
 use Rattle.fields.proofs.Tables.{listed-none, listed_then, listed-front}
-use Rattle.guards.specs.Guards.{containsInflow}
-use Rattle.guards.specs.Asked.{paidAt, askedAmounts, inflowAmounts, asksInflow, askingPlaces}
+use Rattle.guards.specs.Guards.{contains_inflow}
+use Rattle.guards.specs.Asked.{paid_at, asked_amounts, inflow_amounts, asks_inflow, asking_places}
 
 -- What the code tests
 
-pub asks_read : (file : List ℕ) (place n : ℕ) (s : List ℕ) → s ≡ drop place file → (x : List ℕ) → front x ≡ paidAt file n → (b : Bool) → b ≡ containsInflow (front s) (front x) →
-    b ≡ asksInflow file place n
-unfolding asksInflow
+pub asks_read : (file : List ℕ) (place n : ℕ) (s : List ℕ) → s ≡ drop place file → (x : List ℕ) → front x ≡ paid_at file n → (b : Bool) → b ≡ contains_inflow (front s) (front x) →
+    b ≡ asks_inflow file place n
+unfolding asks_inflow
 asks_read file place n s e x f b g = g ∙ rw (e, f)
 
 -- Going through the table
 
 pub record Asking (file : List ℕ) (place : ℕ) (asked table last lent scratch : List ℕ) (i n : ℕ) : Type 0 where
   pub reached : i ≤ length asked
-  pub so_far : Listed (askingPlaces file place (take i asked)) table 0 last n
+  pub so_far : Listed (asking_places file place (take i asked)) table 0 last n
   pub few : n ≤ i
   pub wide : length last ≡ length table
   pub same : length scratch ≡ length lent
@@ -32,27 +32,27 @@ filter-one f k = refl
 
 module _ (file : List ℕ) (place : ℕ) (asked table lent : List ℕ) where
   pub asking-none : Asking file place asked table table lent lent 0 0
-  unfolding askingPlaces filter
+  unfolding asking_places filter
   asking-none = record { reached = omega arith; so_far = listed-none table 0; few = omega arith; wide = refl; same = refl }
 
   module _ (last scratch : List ℕ) (i n : ℕ) (c : Asking file place asked table last lent scratch i n) where
-    pub asking-done : length asked ≤ i → Listed (askingPlaces file place asked) table 0 last n
+    pub asking-done : length asked ≤ i → Listed (asking_places file place asked) table 0 last n
     asking-done h = rw (take_all i asked h) at c.so_far
 
     pub asking-few : n ≤ length asked
     asking-few = omega (arith, c.few, c.reached)
 
-    pub asking-on : i < length asked → (k : ℕ) → k ≡ get_or asked i 0 → (b : Bool) → b ≡ asksInflow file place k → (later : List ℕ) → length later ≡ length scratch →
+    pub asking-on : i < length asked → (k : ℕ) → k ≡ get_or asked i 0 → (b : Bool) → b ≡ asks_inflow file place k → (later : List ℕ) → length later ≡ length scratch →
         (u : List ℕ) (m : ℕ) → Listed (cond b (k ∷ []) []) last n u m → length u ≡ length last → Asking file place asked table u lent later (i + 1) m
-    unfolding askingPlaces
+    unfolding asking_places
     asking-on h k d b g later z u m p y =
-        let one : filter (asksInflow file place) (k ∷ []) ≡ cond b (k ∷ []) [] = filter-one (asksInflow file place) k ∙ rw g in
-        let q : Listed (askingPlaces file place (take i asked) ++ filter (asksInflow file place) (k ∷ [])) table 0 u m =
-        rw one (listed_then (askingPlaces file place (take i asked)) (cond b (k ∷ []) []) table last u 0 n m c.so_far p) in
+        let one : filter (asks_inflow file place) (k ∷ []) ≡ cond b (k ∷ []) [] = filter-one (asks_inflow file place) k ∙ rw g in
+        let q : Listed (asking_places file place (take i asked) ++ filter (asks_inflow file place) (k ∷ [])) table 0 u m =
+        rw one (listed_then (asking_places file place (take i asked)) (cond b (k ∷ []) []) table last u 0 n m c.so_far p) in
         let a : i + 1 ≡ suc i = omega arith in
         record {
           reached = omega (arith, h);
-          so_far = rw (a, take-suc asked i 0 h, ← d, filter-append (asksInflow file place) (take i asked) (k ∷ [])) q;
+          so_far = rw (a, take-suc asked i 0 h, ← d, filter-append (asks_inflow file place) (take i asked) (k ∷ [])) q;
           few = grows b p;
           wide = y ∙ c.wide;
           same = z ∙ c.same;
@@ -74,7 +74,7 @@ map-filter g f (x ∷ l) = go (f (g x)) (map-filter g f l)
     go true e = rw e
     go false e = e
 
-module _ (file : List ℕ) (place : ℕ) (asked : List ℕ) (count : ℕ) (table last : List ℕ) (n : ℕ) (p : Listed (askingPlaces file place (take count asked)) table 0 last n)
+module _ (file : List ℕ) (place : ℕ) (asked : List ℕ) (count : ℕ) (table last : List ℕ) (n : ℕ) (p : Listed (asking_places file place (take count asked)) table 0 last n)
     (h : n ≤ length (take count asked)) (few : count ≤ 64) (wide : length table ≡ 64) where
   enough : n ≤ length table
   enough = omega (arith, length-take count asked)
@@ -85,8 +85,8 @@ module _ (file : List ℕ) (place : ℕ) (asked : List ℕ) (count : ℕ) (table
   pub asking-count : n ≡ length (take n last)
   asking-count = sym (length-take-le n last asking-room)
 
-  pub asking-read : askedAmounts file (take n last) ≡ inflowAmounts file place asked count
-  unfolding askedAmounts inflowAmounts askingPlaces asksInflow
+  pub asking-read : asked_amounts file (take n last) ≡ inflow_amounts file place asked count
+  unfolding asked_amounts inflow_amounts asking_places asks_inflow
   asking-read =
-      ap (map (paidAt file)) (listed-front (askingPlaces file place (take count asked)) table last n p enough)
-      ∙ map-filter (paidAt file) (containsInflow (front (drop place file))) (take count asked)
+      ap (map (paid_at file)) (listed-front (asking_places file place (take count asked)) table last n p enough)
+      ∙ map-filter (paid_at file) (contains_inflow (front (drop place file))) (take count asked)

@@ -4,11 +4,11 @@ use Rattle.std.proofs.Common.{ℕ, ◌+◌, ◌*◌, ◌≤◌, ◌≡◌, refl,
 use mathlib.Core.List.{map-append}
 use lib.Seq.{length-sets}
 use Rattle.laws.proofs.Seeking.{Seeking}
-use Rattle.laws.specs.Texts.{sameBytes, bytes}
+use Rattle.laws.specs.Texts.{same_bytes, bytes}
 use Rattle.laws.specs.Lists.{any, filter}
 use Rattle.laws.proofs.Truths.{or_left, or-either}
 use Rattle.laws.proofs.Lists.{any_left, any-first}
-use Rattle.tags.specs.Tag.{Member, Identifier, isExpression}
+use Rattle.tags.specs.Tag.{Member, Identifier, is_expression}
 use Rattle.fields.specs.Table.{Listed, fields_at}
 use Rattle.fields.specs.Field.{Field, Fields, length_of, whole, front, tag, text, part, nth, size}
 use Rattle.fields.specs.Field.Field.{field}
@@ -16,72 +16,72 @@ use Rattle.fields.specs.Field.Fields.{end, next}
 use Rattle.fields.proofs.Reading.{front-none}
 use Rattle.fields.proofs.Places.{front-size}
 use Rattle.fields.proofs.Tables.{listed-front}
-use Rattle.walking.specs.Walking.{walk, walkParts, withoutPlaces, ident, assetAmountBacker, assetParams}
+use Rattle.walking.specs.Walking.{walk, walk_parts, without_places, ident, asset_amount_backer, asset_params}
 use Rattle.walking.specs.Table.{places_of}
 use Rattle.walking.proofs.Callers.{expression-few, expression-read}
-use Rattle.tokens.specs.Tokens.{isInflow}
+use Rattle.tokens.specs.Tokens.{is_inflow}
 use Rattle.fields.proofs.AtPlaces.{field_at, fields-any}
-use Rattle.guards.specs.Guards.{containsInflow}
-use Rattle.guards.specs.Members.{membersIn, memberInflow}
+use Rattle.guards.specs.Guards.{contains_inflow}
+use Rattle.guards.specs.Members.{members_in, member_inflow}
 
-abbrev isMember : Field → Bool
-isMember f = eqb (tag f) Member
+abbrev is_member : Field → Bool
+is_member f = eqb (tag f) Member
 
-member-only : (entry : Field) → any (sameBytes []) (assetParams entry) ≡ false → (f : Field) → isInflow entry f ≡ true → isMember f ≡ true
-unfolding isInflow assetAmountBacker
-member-only entry n f h = go (isMember f) refl
+member-only : (entry : Field) → any (same_bytes []) (asset_params entry) ≡ false → (f : Field) → is_inflow entry f ≡ true → is_member f ≡ true
+unfolding is_inflow asset_amount_backer
+member-only entry n f h = go (is_member f) refl
   where
-    go : (k : Bool) → isMember f ≡ k → isMember f ≡ true
+    go : (k : Bool) → is_member f ≡ k → is_member f ≡ true
     go true e = e
     go false e = cc
 
 -- An asset parameter without a name
 
-module _ (entry : Field) (z : any (sameBytes []) (assetParams entry) ≡ true) where
-  unnamed : (f : Field) → assetAmountBacker f ≡ [] → isInflow entry f ≡ true
-  unfolding isInflow
+module _ (entry : Field) (z : any (same_bytes []) (asset_params entry) ≡ true) where
+  unnamed : (f : Field) → asset_amount_backer f ≡ [] → is_inflow entry f ≡ true
+  unfolding is_inflow
   unnamed f e = rw e z
 
-  identifier-unnamed : (f : Field) → eqb (tag f) Identifier ≡ true → isInflow entry f ≡ true
-  unfolding assetAmountBacker
+  identifier-unnamed : (f : Field) → eqb (tag f) Identifier ≡ true → is_inflow entry f ≡ true
+  unfolding asset_amount_backer
   identifier-unnamed f e = unnamed f (rw (eqb-true (tag f) Identifier e))
 
   either_way : (k : Bool) (x : List ℕ) → x ≡ [] → cond k x [] ≡ []
   either_way true x e = e
   either_way false x e = refl
 
-  base-decides : (f : Field) → eqb (tag (part 0 f)) Identifier ≡ false → isInflow entry f ≡ true
-  unfolding assetAmountBacker ident
+  base-decides : (f : Field) → eqb (tag (part 0 f)) Identifier ≡ false → is_inflow entry f ≡ true
+  unfolding asset_amount_backer ident
   base-decides f e =
       let i : ident (part 0 f) ≡ [] = rw e in
-      unnamed f (either_way (eqb (tag f) Member && sameBytes (text (part 1 f)) (bytes "amount")) (ident (part 0 f)) i)
+      unnamed f (either_way (eqb (tag f) Member && same_bytes (text (part 1 f)) (bytes "amount")) (ident (part 0 f)) i)
 
-  walked-first : (n : ℕ) (f : Field) → eqb (tag f) Identifier ≡ true → any (isInflow entry) (withoutPlaces (walk n f)) ≡ true
-  unfolding any walk isExpression
+  walked-first : (n : ℕ) (f : Field) → eqb (tag f) Identifier ≡ true → any (is_inflow entry) (without_places (walk n f)) ≡ true
+  unfolding any walk is_expression
   walked-first n (field t x ps) e = rw (eqb-true t Identifier e) (or_left _ _ (identifier-unnamed (field 0x33 x ps) refl))
 
-  inside : (n t : ℕ) (x : List ℕ) (ps : Fields) → isInflow entry (field t x ps) ≡ false → any (isInflow entry) (withoutPlaces (walkParts n ps)) ≡ true
-  unfolding walkParts nth
+  inside : (n t : ℕ) (x : List ℕ) (ps : Fields) → is_inflow entry (field t x ps) ≡ false → any (is_inflow entry) (without_places (walk_parts n ps)) ≡ true
+  unfolding walk_parts nth
   inside n t x (end r) h = cc (base-decides (field t x (end r)) refl)
   inside n t x (next f fs) h = go (eqb (tag f) Identifier) refl
     where
-      go : (k : Bool) → eqb (tag f) Identifier ≡ k → any (isInflow entry) (withoutPlaces (walk n f ++ walkParts (n + size f) fs)) ≡ true
+      go : (k : Bool) → eqb (tag f) Identifier ≡ k → any (is_inflow entry) (without_places (walk n f ++ walk_parts (n + size f) fs)) ≡ true
       go true e =
-          rw (map-append (λ p. p.this) (walk n f) (walkParts (n + size f) fs))
-          (any_left (isInflow entry) (withoutPlaces (walk n f)) _ (walked-first n f e))
+          rw (map-append (λ p. p.this) (walk n f) (walk_parts (n + size f) fs))
+          (any_left (is_inflow entry) (without_places (walk n f)) _ (walked-first n f e))
       go false e = cc (base-decides (field t x (next f fs)) e)
 
-  every-expression : (f : Field) → isExpression (tag f) ≡ containsInflow entry f
-  unfolding containsInflow any walk
-  every-expression (field t x ps) = go (isExpression t)
+  every-expression : (f : Field) → is_expression (tag f) ≡ contains_inflow entry f
+  unfolding contains_inflow any walk
+  every-expression (field t x ps) = go (is_expression t)
     where
-      go : (k : Bool) → k ≡ any (isInflow entry) (withoutPlaces (cond k (record { place = 0; this = field t x ps } ∷ walkParts 3 ps) []))
+      go : (k : Bool) → k ≡ any (is_inflow entry) (without_places (cond k (record { place = 0; this = field t x ps } ∷ walk_parts 3 ps) []))
       go true = sym (or-either _ _ (inside 3 t x ps))
       go false = refl
 
 -- as the code tests it
-pub nameless : (entry amount : List ℕ) (b : Bool) → b ≡ any (sameBytes []) (assetParams (front entry)) → b ≡ true →
-    (t : ℕ) → t ≡ tag (front amount) → (r : Bool) → r ≡ isExpression t → r ≡ containsInflow (front entry) (front amount)
+pub nameless : (entry amount : List ℕ) (b : Bool) → b ≡ any (same_bytes []) (asset_params (front entry)) → b ≡ true →
+    (t : ℕ) → t ≡ tag (front amount) → (r : Bool) → r ≡ is_expression t → r ≡ contains_inflow (front entry) (front amount)
 nameless entry amount b e h t f r g = g ∙ rw f (every-expression (front entry) (sym e ∙ h) (front amount))
 
 -- The members in the amount
@@ -89,7 +89,7 @@ nameless entry amount b e h t f r g = g ∙ rw f (every-expression (front entry)
 module _ (s table members : List ℕ) (count : ℕ) (l : Listed (places_of Member (walk 0 (front s))) table 0 members count) (k : length s ≤ 3 * length table) where
   -- each takes three bytes at least, so a table with a number for each three bytes has room for all
   members-few : 3 * length (places_of Member (walk 0 (front s))) ≤ length s
-  unfolding walk isExpression filter
+  unfolding walk is_expression filter
   members-few = go (whole s) refl
     where
       few : 3 * length (places_of Member (walk 0 (front s))) ≤ size (front s)
@@ -108,18 +108,18 @@ module _ (s table members : List ℕ) (count : ℕ) (l : Listed (places_of Membe
   pub members-count : count ≡ length (take count members)
   members-count = sym (length-take-le count members members-room)
 
-  pub members-read : length s ≤ 32768 → fields_at s (take count members) ≡ membersIn (front s)
-  unfolding membersIn fields_at
+  pub members-read : length s ≤ 32768 → fields_at s (take count members) ≡ members_in (front s)
+  unfolding members_in fields_at
   members-read h = rw (listed-front (places_of Member (walk 0 (front s))) table members count l enough) (expression-read s Member (omega arith))
 
 -- so the members decide
-pub by_members : (entry amount : Field) (b : Bool) → b ≡ any (sameBytes []) (assetParams entry) → b ≡ false →
-    (r : Bool) → r ≡ memberInflow entry amount → r ≡ containsInflow entry amount
-unfolding memberInflow membersIn containsInflow
+pub by_members : (entry amount : Field) (b : Bool) → b ≡ any (same_bytes []) (asset_params entry) → b ≡ false →
+    (r : Bool) → r ≡ member_inflow entry amount → r ≡ contains_inflow entry amount
+unfolding member_inflow members_in contains_inflow
 by_members entry amount b e f r g =
-    g ∙ any-first (isInflow entry) isMember (member-only entry (sym e ∙ f)) (withoutPlaces (walk 0 amount))
+    g ∙ any-first (is_inflow entry) is_member (member-only entry (sym e ∙ f)) (without_places (walk 0 amount))
 
-pub members-any : (entry : Field) (s members : List ℕ) → fields_at s members ≡ membersIn (front s) →
-    Seeking (field_at (isInflow entry) s) members (length members) 0 (memberInflow entry (front s))
-unfolding memberInflow
-members-any entry s members e = rw (← e) (fields-any (isInflow entry) s members)
+pub members-any : (entry : Field) (s members : List ℕ) → fields_at s members ≡ members_in (front s) →
+    Seeking (field_at (is_inflow entry) s) members (length members) 0 (member_inflow entry (front s))
+unfolding member_inflow
+members-any entry s members e = rw (← e) (fields-any (is_inflow entry) s members)

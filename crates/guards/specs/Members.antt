@@ -3,13 +3,13 @@ use Rattle.std.specs.Prelude.{Bool, List, eqb}
 use Rattle.laws.specs.Lists.{any, filter}
 use Rattle.tags.specs.Tag.{Member}
 use Rattle.fields.specs.Field.{Field, tag}
-use Rattle.walking.specs.Walking.{walk, withoutPlaces}
-use Rattle.tokens.specs.Tokens.{isInflow}
+use Rattle.walking.specs.Walking.{walk, without_places}
+use Rattle.tokens.specs.Tokens.{is_inflow}
 
 -- in walk order
-unfoldable pub membersIn : Field → List Field
-membersIn amount = filter (λ f. eqb (tag f) Member) (withoutPlaces (walk 0 amount))
+unfoldable pub members_in : Field → List Field
+members_in amount = filter (λ f. eqb (tag f) Member) (without_places (walk 0 amount))
 
 -- one of them is `p.amount`, p an asset parameter of the entry
-unfoldable pub memberInflow : Field → Field → Bool
-memberInflow entry amount = any (isInflow entry) (membersIn amount)
+unfoldable pub member_inflow : Field → Field → Bool
+member_inflow entry amount = any (is_inflow entry) (members_in amount)

@@ -3,9 +3,9 @@
 ghost use Rattle.std.specs.Prelude.{◌≡◌, ◌*◌, ◌≤◌, length};
 ghost use Rattle.fields.specs.Field.{front};
 ghost use Rattle.fields.specs.Table.{Listed, fields_at};
-ghost use Rattle.guards.specs.Guards.{containsInflow};
-ghost use Rattle.guards.specs.Members.{membersIn, memberInflow};
-ghost use Rattle.guards.specs.Asked.{asksInflow, askingPlaces};
+ghost use Rattle.guards.specs.Guards.{contains_inflow};
+ghost use Rattle.guards.specs.Members.{members_in, member_inflow};
+ghost use Rattle.guards.specs.Asked.{asks_inflow, asking_places};
 
 use super::payout::amount_paid;
 use fields::bytes::skip;
@@ -19,8 +19,8 @@ use walking::walk::list_expression;
 // Whether one of the members in the expression at the front of amount, all of which a table has, is an asset parameter's
 // `p.amount`.
 fn has_inflow(entry: &[u8], amount: &[u8], members: &[u16]) -> bool
-    requires { fields_at amount.now members.now ≡ membersIn (front amount.now) }
-    ensures { result ≡ memberInflow (front entry.now) (front amount.now) }
+    requires { fields_at amount.now members.now ≡ members_in (front amount.now) }
+    ensures { result ≡ member_inflow (front entry.now) (front amount.now) }
 {
     let mut i = 0;
     while i < members.len() {
@@ -38,7 +38,7 @@ fn has_inflow(entry: &[u8], amount: &[u8], members: &[u16]) -> bool
 pub fn contains_inflow(entry: &[u8], amount: &[u8], scratch: &mut [u16]) -> bool
     requires short { length amount.now ≤ 32768 }
     requires room { length amount.now ≤ 3 * length scratch.old }
-    ensures { result ≡ containsInflow (front entry.now) (front amount.now) }
+    ensures { result ≡ contains_inflow (front entry.now) (front amount.now) }
 {
     if has_asset_parameter(entry, &entry[..0]) {
         return is_expression(tag_of(amount));
@@ -51,7 +51,7 @@ pub fn contains_inflow(entry: &[u8], amount: &[u8], scratch: &mut [u16]) -> bool
 fn asks_inflow(file: &[u8], entry: usize, payout: usize, scratch: &mut [u16]) -> bool
     requires short { length file.now ≤ 32768 }
     requires room { length file.now ≤ 3 * length scratch.old }
-    ensures { result ≡ asksInflow file.now entry payout }
+    ensures { result ≡ asks_inflow file.now entry payout }
 {
     contains_inflow(skip(file, entry), amount_paid(file, payout), scratch)
 }
@@ -67,7 +67,7 @@ pub fn list_asking(
 ) -> usize
     requires short { length file.now ≤ 32768 }
     requires room { length file.now ≤ 3 * length scratch.old }
-    ensures listed { Listed (askingPlaces file.now place asked.now) table.old 0 table.new result }
+    ensures listed { Listed (asking_places file.now place asked.now) table.old 0 table.new result }
     ensures few { result ≤ length asked.now }
 {
     let mut i = 0;

@@ -3,7 +3,7 @@
 ghost use Rattle.std.specs.Prelude.{◌≡◌, ◌||◌, eqb};
 ghost use Rattle.tags.specs.Tag.{Gt, Ge, Lt, Le};
 ghost use Rattle.fields.specs.Field.{front};
-ghost use Rattle.guards.specs.Guards.{guardedField, guardedAmount};
+ghost use Rattle.guards.specs.Guards.{guarded_field, guarded_amount};
 
 use fields::front::{part_of, tag_of};
 use tags::{GE, GT, LE, LT};
@@ -26,7 +26,7 @@ fn is_less(tag: u8) -> bool
 
 // The r of the guard at the front of s; no bytes of any other expression.
 pub fn guarded_field(s: &[u8]) -> &[u8]
-    ensures { result.now ≡ guardedField (front s.now) }
+    ensures { result.now ≡ guarded_field (front s.now) }
 {
     let g = peel(s);
     let tag = tag_of(g);
@@ -41,7 +41,7 @@ pub fn guarded_field(s: &[u8]) -> &[u8]
 
 // Its amount, peeled; no field of any other expression.
 pub fn guarded_amount(s: &[u8]) -> &[u8]
-    ensures { front result.now ≡ guardedAmount (front s.now) }
+    ensures { front result.now ≡ guarded_amount (front s.now) }
 {
     let guard = peel(s);
     let operator = tag_of(guard);

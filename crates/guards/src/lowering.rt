@@ -5,9 +5,9 @@ ghost use Rattle.std.specs.Prelude.{◌≡◌};
 ghost use Rattle.laws.specs.Lists.{any};
 ghost use Rattle.fields.specs.Field.{front};
 ghost use Rattle.fields.specs.Table.{Listed, fields_at};
-ghost use Rattle.guards.specs.Guards.{containsWrapping, loweredBy};
-ghost use Rattle.guards.specs.Asked.{askedAmounts};
-ghost use Rattle.guards.specs.Lowerings.{isLowering, mayLower, loweringPlaces};
+ghost use Rattle.guards.specs.Guards.{contains_wrapping, lowered_by};
+ghost use Rattle.guards.specs.Asked.{asked_amounts};
+ghost use Rattle.guards.specs.Lowerings.{is_lowering, may_lower, lowering_places};
 
 use super::payout::is_asked;
 use equality::expr_eq;
@@ -23,7 +23,7 @@ use walking::walk::list_expression;
 // Whether Wrapping stands somewhere in the expression at the front of s. The walk counts also what the table has no room
 // for, so the table's one number serves.
 pub fn contains_wrapping(s: &[u8]) -> bool
-    ensures { result ≡ containsWrapping (front s.now) }
+    ensures { result ≡ contains_wrapping (front s.now) }
 {
     let mut table = [0u16; 1];
     let count = list_expression(s, WRAPPING, &mut table);
@@ -32,7 +32,7 @@ pub fn contains_wrapping(s: &[u8]) -> bool
 
 // What the statement at the front of s lowers the state field of that name by; no field where it does not.
 pub fn lowered_by<'a>(name: &[u8], s: &'a [u8]) -> &'a [u8]
-    ensures { front result.now ≡ loweredBy name.now (front s.now) }
+    ensures { front result.now ≡ lowered_by name.now (front s.now) }
 {
     if tag_of(s) == SUBTRACT_FROM {
         return value_of(s);
@@ -46,7 +46,7 @@ pub fn lowered_by<'a>(name: &[u8], s: &'a [u8]) -> &'a [u8]
 // Whether the statement at the front of s lowers its own target by an amount that a payout asks for. Most amounts differ at
 // once, so Wrapping is looked for last.
 fn is_lowering(file: &[u8], asked: &[u16], s: &[u8]) -> bool
-    ensures { result ≡ isLowering (askedAmounts file.now asked.now) (front s.now) }
+    ensures { result ≡ is_lowering (asked_amounts file.now asked.now) (front s.now) }
 {
     if !is_assign(tag_of(s)) {
         return false;
@@ -61,7 +61,7 @@ fn is_lowering(file: &[u8], asked: &[u16], s: &[u8]) -> bool
 // Lists the places of those statements in the part of the file that starts with the entry, as far as the table has room, and
 // answers how many there are.
 pub fn list_lowerings(file: &[u8], asked: &[u16], entry: &[u8], table: &mut [u16]) -> usize
-    ensures { Listed (loweringPlaces (askedAmounts file.now asked.now) (front entry.now)) table.old 0 table.new result }
+    ensures { Listed (lowering_places (asked_amounts file.now asked.now) (front entry.now)) table.old 0 table.new result }
 {
     let mut t = parts_of(entry);
     let mut at = 3;
@@ -77,7 +77,7 @@ pub fn list_lowerings(file: &[u8], asked: &[u16], entry: &[u8], table: &mut [u16
 
 // Whether the statement at the front of s lowers the state field by the amount; whether Wrapping stands in it is not asked.
 fn may_lower(amount: &[u8], name: &[u8], s: &[u8]) -> bool
-    ensures { result ≡ mayLower (front amount.now) name.now (front s.now) }
+    ensures { result ≡ may_lower (front amount.now) name.now (front s.now) }
 {
     if !assigns(name, s) {
         return false;
@@ -88,7 +88,7 @@ fn may_lower(amount: &[u8], name: &[u8], s: &[u8]) -> bool
 // Whether one of the lowerings does, which stand at the places of a table in the part of the file that starts with the entry. No
 // Wrapping stands in a lowering.
 pub fn is_lowered(entry: &[u8], lowerings: &[u16], amount: &[u8], name: &[u8]) -> bool
-    ensures { result ≡ any (mayLower (front amount.now) name.now) (fields_at entry.now lowerings.now) }
+    ensures { result ≡ any (may_lower (front amount.now) name.now) (fields_at entry.now lowerings.now) }
 {
     let mut i = 0;
     while i < lowerings.len() {

@@ -3,9 +3,9 @@
 ghost use Rattle.std.specs.Prelude.{◌≡◌, ◌≤◌, length};
 ghost use Rattle.laws.specs.Lists.{any};
 ghost use Rattle.fields.specs.Field.{front};
-ghost use Rattle.equality.specs.Equality.{exprEq};
-ghost use Rattle.guards.specs.Payouts.{payoutToken, payoutAmount};
-ghost use Rattle.guards.specs.Asked.{askedToken, paidAt, askedAmount, askedAmounts};
+ghost use Rattle.equality.specs.Equality.{expr_eq};
+ghost use Rattle.guards.specs.Payouts.{payout_token, payout_amount};
+ghost use Rattle.guards.specs.Asked.{asked_token, paid_at, asked_amount, asked_amounts};
 
 use equality::expr_eq;
 use fields::bytes::{same_bytes, skip};
@@ -16,14 +16,14 @@ use walking::shape::{ident, method};
 
 // The token of the payout at the front of s: its first argument, peeled, if an identifier.
 pub fn payout_token(s: &[u8]) -> &[u8]
-    ensures { result.now ≡ payoutToken (front s.now) }
+    ensures { result.now ≡ payout_token (front s.now) }
 {
     ident(peel(part_of(s, 1)))
 }
 
 // Its amount, unpeeled: its third argument, or the first one of the call of a member `split` that this is.
 pub fn payout_amount(s: &[u8]) -> &[u8]
-    ensures reads { front result.now ≡ payoutAmount (front s.now) }
+    ensures reads { front result.now ≡ payout_amount (front s.now) }
     ensures within { length result.now ≤ length s.now }
 {
     let value = part_of(s, 3);
@@ -36,14 +36,14 @@ pub fn payout_amount(s: &[u8]) -> &[u8]
 
 // The token that the k-th payout of the table asks for.
 pub fn asked_token<'a>(file: &'a [u8], asked: &[u16], k: usize) -> &'a [u8]
-    ensures { result.now ≡ askedToken file.now asked.now k }
+    ensures { result.now ≡ asked_token file.now asked.now k }
 {
     payout_token(skip(file, number_at(asked, k)))
 }
 
 // The amount, peeled, of the payout at a place of the file.
 pub fn amount_paid(file: &[u8], place: usize) -> &[u8]
-    ensures reads { front result.now ≡ paidAt file.now place }
+    ensures reads { front result.now ≡ paid_at file.now place }
     ensures within { length result.now ≤ length file.now }
 {
     peel(payout_amount(skip(file, place)))
@@ -51,7 +51,7 @@ pub fn amount_paid(file: &[u8], place: usize) -> &[u8]
 
 // That of the k-th payout of the table.
 pub fn asked_amount<'a>(file: &'a [u8], asked: &[u16], k: usize) -> &'a [u8]
-    ensures reads { front result.now ≡ askedAmount file.now asked.now k }
+    ensures reads { front result.now ≡ asked_amount file.now asked.now k }
     ensures within { length result.now ≤ length file.now }
 {
     amount_paid(file, number_at(asked, k))
@@ -59,7 +59,7 @@ pub fn asked_amount<'a>(file: &'a [u8], asked: &[u16], k: usize) -> &'a [u8]
 
 // Whether one of the payouts asks for the amount.
 pub fn is_asked(file: &[u8], asked: &[u16], amount: &[u8]) -> bool
-    ensures { result ≡ any (exprEq (front amount.now)) (askedAmounts file.now asked.now) }
+    ensures { result ≡ any (expr_eq (front amount.now)) (asked_amounts file.now asked.now) }
 {
     let mut i = 0;
     while i < asked.len() {

@@ -1,7 +1,7 @@
 -- How many of a list pass a test: of numbered things at most one has a given number.
 use Rattle.std.proofs.Common.{ℕ, zero, suc, ◌+◌, ◌≤◌, ◌<◌, arith, ◌≡◌, refl, ap, Bool, true, false, cond, List, [], ◌∷◌, ◌++◌, map, length, get_or}
 use mathlib.Core.Option.{some}
-use Rattle.laws.specs.Lists.{filter, find, removeFirst, numbered}
+use Rattle.laws.specs.Lists.{filter, find, remove_first, numbered}
 
 -- a test as a number
 abbrev pub bit : Bool → ℕ
@@ -44,15 +44,15 @@ module _ {A : Type 0} where
       ap suc (only_one f xs i j d (omega (arith, count-cons f x xs)) (omega arith) (omega arith) p q)
 
   -- the first that passes t, taken out, is one less of those that pass f, if it passes
-  pub count-taken : (t f : A → Bool) (l : List A) (b : A) → find t l ≡ some b → count f l ≡ bit (f b) + count f (removeFirst t l)
-  unfolding find filter removeFirst
+  pub count-taken : (t f : A → Bool) (l : List A) (b : A) → find t l ≡ some b → count f l ≡ bit (f b) + count f (remove_first t l)
+  unfolding find filter remove_first
   count-taken t f [] b e = cc
   count-taken t f (x ∷ xs) b e = go (t x) refl (count-taken t f xs b)
     where
-      go : (k : Bool) → t x ≡ k → (find t xs ≡ some b → count f xs ≡ bit (f b) + count f (removeFirst t xs)) →
-          count f (x ∷ xs) ≡ bit (f b) + count f (removeFirst t (x ∷ xs))
+      go : (k : Bool) → t x ≡ k → (find t xs ≡ some b → count f xs ≡ bit (f b) + count f (remove_first t xs)) →
+          count f (x ∷ xs) ≡ bit (f b) + count f (remove_first t (x ∷ xs))
       go true h r = cc (count-cons f x xs)
-      go false h r = rw h (omega (arith, r (rw h at e), count-cons f x xs, count-cons f x (removeFirst t xs)))
+      go false h r = rw h (omega (arith, r (rw h at e), count-cons f x xs, count-cons f x (remove_first t xs)))
 
 -- things made of numbered ones
 module _ {A B : Type 0} (mk : ℕ × A → B) (f : B → Bool) where

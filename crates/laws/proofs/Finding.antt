@@ -3,7 +3,7 @@ use Rattle.std.proofs.Common.{zero, suc, ◌≤◌, ◌≡◌, refl, Bool, true,
 use mathlib.Core.Bool.{false≢true}
 use mathlib.Core.Option.{none, some}
 use lib.ListN.{get_elem?}
-use Rattle.laws.specs.Lists.{any, filter, find, removeFirst, position}
+use Rattle.laws.specs.Lists.{any, filter, find, remove_first, position}
 use Rattle.laws.proofs.Truths.{or_right, or_swap}
 use Rattle.laws.proofs.Lists.{Every}
 
@@ -70,34 +70,34 @@ module _ {A : Type 0} where
 
     module _ (f : A → Bool) where
       -- taken out, it and the others are what there was
-      pub any-removed : (l : List A) (b : A) → find t l ≡ some b → any f l ≡ f b || any f (removeFirst t l)
-      unfolding find any removeFirst
+      pub any-removed : (l : List A) (b : A) → find t l ≡ some b → any f l ≡ f b || any f (remove_first t l)
+      unfolding find any remove_first
       any-removed [] b e = cc
       any-removed (x ∷ xs) b e = go (t x) refl (any-removed xs b)
         where
-          go : (k : Bool) → t x ≡ k → (find t xs ≡ some b → any f xs ≡ f b || any f (removeFirst t xs)) →
-              any f (x ∷ xs) ≡ f b || any f (removeFirst t (x ∷ xs))
+          go : (k : Bool) → t x ≡ k → (find t xs ≡ some b → any f xs ≡ f b || any f (remove_first t xs)) →
+              any f (x ∷ xs) ≡ f b || any f (remove_first t (x ∷ xs))
           go true h r = cc
-          go false h r = rw (h, r (rw h at e)) (or_swap (f x) (f b) (any f (removeFirst t xs)))
+          go false h r = rw (h, r (rw h at e)) (or_swap (f x) (f b) (any f (remove_first t xs)))
 
       -- and of those that pass another test none is missing
-      pub filter-other : (l : List A) → ((x : A) → t x ≡ true → f x ≡ false) → filter f (removeFirst t l) ≡ filter f l
-      unfolding filter removeFirst
+      pub filter-other : (l : List A) → ((x : A) → t x ≡ true → f x ≡ false) → filter f (remove_first t l) ≡ filter f l
+      unfolding filter remove_first
       filter-other [] n = refl
       filter-other (x ∷ xs) n = go (t x) refl (filter-other xs n)
         where
-          go : (k : Bool) → t x ≡ k → filter f (removeFirst t xs) ≡ filter f xs → filter f (removeFirst t (x ∷ xs)) ≡ filter f (x ∷ xs)
+          go : (k : Bool) → t x ≡ k → filter f (remove_first t xs) ≡ filter f xs → filter f (remove_first t (x ∷ xs)) ≡ filter f (x ∷ xs)
           go true h r = rw (h, n x h)
           go false h r = rw (h, r)
 
     -- of those that pass the test itself, the first is missing
-    pub filter-taken : (l : List A) → filter t (removeFirst t l) ≡ drop 1 (filter t l)
-    unfolding filter removeFirst
+    pub filter-taken : (l : List A) → filter t (remove_first t l) ≡ drop 1 (filter t l)
+    unfolding filter remove_first
     filter-taken [] = refl
     filter-taken (x ∷ xs) = go (t x) refl (filter-taken xs)
       where
-        go : (k : Bool) → t x ≡ k → filter t (removeFirst t xs) ≡ drop 1 (filter t xs) →
-            filter t (removeFirst t (x ∷ xs)) ≡ drop 1 (filter t (x ∷ xs))
+        go : (k : Bool) → t x ≡ k → filter t (remove_first t xs) ≡ drop 1 (filter t xs) →
+            filter t (remove_first t (x ∷ xs)) ≡ drop 1 (filter t (x ∷ xs))
         go true h r = rw h
         go false h r = rw (h, h) r
 

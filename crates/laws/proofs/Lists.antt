@@ -31,10 +31,10 @@ module _ {A : Type 0} where
   every-weaker P Q f (x ∷ l) p = (f x p.0, every-weaker P Q f l p.1)
 
 module _ {A B : Type 0} (P : A → Type 0) (Q : B → Type 0) (g : A → List B) (h : (x : A) → P x → Every Q (g x)) where
-  pub every-flatMap : (l : List A) → Every P l → Every Q (flat_map g l)
+  pub every-flat_map : (l : List A) → Every P l → Every Q (flat_map g l)
   unfolding flat_map
-  every-flatMap [] p = tt
-  every-flatMap (x ∷ xs) p = every_append Q (g x) (flat_map g xs) (h x p.0) (every-flatMap xs p.1)
+  every-flat_map [] p = tt
+  every-flat_map (x ∷ xs) p = every_append Q (g x) (flat_map g xs) (h x p.0) (every-flat_map xs p.1)
 
 -- Joined and mapped lists
 
@@ -49,14 +49,14 @@ module _ {A : Type 0} where
     map_at f (x ∷ l) zero d e h = refl
     map_at f (x ∷ l) (suc k) d e h = map_at f l k d e (omega (arith, h))
 
-    pub flatMap-append : (f : A → List B) (l m : List A) → flat_map f (l ++ m) ≡ flat_map f l ++ flat_map f m
+    pub flat_map-append : (f : A → List B) (l m : List A) → flat_map f (l ++ m) ≡ flat_map f l ++ flat_map f m
     unfolding flat_map
-    flatMap-append f [] m = refl
-    flatMap-append f (x ∷ l) m = rw (flatMap-append f l m) (sym (append_assoc (f x) (flat_map f l) (flat_map f m)))
+    flat_map-append f [] m = refl
+    flat_map-append f (x ∷ l) m = rw (flat_map-append f l m) (sym (append_assoc (f x) (flat_map f l) (flat_map f m)))
 
-    pub flatMap-then : (f : A → List B) (l : List A) (x : A) → flat_map f (l ++ x ∷ []) ≡ flat_map f l ++ f x
+    pub flat_map-then : (f : A → List B) (l : List A) (x : A) → flat_map f (l ++ x ∷ []) ≡ flat_map f l ++ f x
     unfolding flat_map
-    flatMap-then f l x = flatMap-append f l (x ∷ []) ∙ rw (append-nil (f x))
+    flat_map-then f l x = flat_map-append f l (x ∷ []) ∙ rw (append-nil (f x))
 
 -- Filtered lists
 

@@ -45,8 +45,8 @@ drop-take (suc m) (suc n) [] = rw take-nil
 drop-take (suc m) (suc n) (x ∷ l) = rw (suc-sub-suc n m) (drop-take m n l)
 
 -- the elements behind the first list
-pub getD-behind : {A : Type 0} (l m : List A) (n i : ℕ) (d : A) → length l ≡ n → n ≤ i → get_or (l ++ m) i d ≡ get_or m (i - n) d
-getD-behind l m n i d e h =
+pub get_d-behind : {A : Type 0} (l m : List A) (n i : ℕ) (d : A) → length l ≡ n → n ≤ i → get_or (l ++ m) i d ≡ get_or m (i - n) d
+get_d-behind l m n i d e h =
     let z : i ≡ length l + (i - n) = omega (arith, e) in
     ap (λ k. get_or (l ++ m) k d) z ∙ get_or-append-add l m (i - n) d
 

@@ -24,9 +24,9 @@ module _ {A : Type 0} where
   find f (x ∷ xs) = cond (f x) (some x) (find f xs)
 
   -- all but that one
-  unfoldable pub removeFirst : (A → Bool) → List A → List A
-  removeFirst f [] = []
-  removeFirst f (x ∷ xs) = cond (f x) xs (x ∷ removeFirst f xs)
+  unfoldable pub remove_first : (A → Bool) → List A → List A
+  remove_first f [] = []
+  remove_first f (x ∷ xs) = cond (f x) xs (x ∷ remove_first f xs)
 
   -- how many stand before it
   unfoldable pub position : (A → Bool) → List A → ℕ

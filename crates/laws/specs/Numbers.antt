@@ -2,16 +2,16 @@
 use Rattle.std.specs.Prelude.{ℕ, zero, suc, Bool, cond, List, [], ◌∷◌}
 
 -- the elements whose numbers are marked, in order
-unfoldable pub chosenBy : {A : Type 0} → (ℕ → Bool) → List A → List A
-chosenBy p [] = []
-chosenBy p (x ∷ xs) = cond (p zero) (x ∷ chosenBy (λ i. p (suc i)) xs) (chosenBy (λ i. p (suc i)) xs)
+unfoldable pub chosen_by : {A : Type 0} → (ℕ → Bool) → List A → List A
+chosen_by p [] = []
+chosen_by p (x ∷ xs) = cond (p zero) (x ∷ chosen_by (λ i. p (suc i)) xs) (chosen_by (λ i. p (suc i)) xs)
 
 -- the first of n numbers, counted from i, that passes; the one behind them where none does
-unfoldable pub firstFrom : (ℕ → Bool) → (i n : ℕ) → ℕ
-firstFrom p i zero = i
-firstFrom p i (suc n) = cond (p i) i (firstFrom p (suc i) n)
+unfoldable pub first_from : (ℕ → Bool) → (i n : ℕ) → ℕ
+first_from p i zero = i
+first_from p i (suc n) = cond (p i) i (first_from p (suc i) n)
 
 -- what n numbers stand for, the last first
-unfoldable pub downFrom : {A : Type 0} → (ℕ → A) → ℕ → List A
-downFrom f zero = []
-downFrom f (suc n) = f n ∷ downFrom f n
+unfoldable pub down_from : {A : Type 0} → (ℕ → A) → ℕ → List A
+down_from f zero = []
+down_from f (suc n) = f n ∷ down_from f n

@@ -6,17 +6,17 @@ use lib.Seq.{sets-eq, drop-nil}
 use Rattle.laws.specs.Lists.{numbered}
 use Rattle.fields.specs.Field.{Field, fields, nothing}
 use Rattle.model.specs.Model.{entries}
-use Rattle.questions.specs.Questions.{Asked, passes, fails, askFile}
+use Rattle.questions.specs.Questions.{Asked, passes, fails, ask_file}
 use Rattle.claim.specs.Verdict.{Verdict, refused, rejected, accepted, entry_at, sheet, written, spare}
 use Rattle.verdict.proofs.Running.{sheet-long}
 use Rattle.output.specs.Output.{Written}
 use Rattle.contract.specs.Answer.{outcome, first_of, second_of}
-use Rattle.contract.specs.Records.{twoBytes, recorded, verdictOn, recordOn, below}
-use Rattle.contract.specs.Each.{recordCount, eachRecord, EachRecorded, recordsEnough}
+use Rattle.contract.specs.Records.{two_bytes, recorded, verdict_on, record_on, below}
+use Rattle.contract.specs.Each.{record_count, each_record, EachRecorded, records_enough}
 use Rattle.contract.specs.declared.records.Recorded.{Recorded}
 use Rattle.contract.proofs.Enough.{Fitting, on-entry, entry-fits, file-fits, each-enough}
-use Rattle.listing.specs.Listing.{refusalLine, acceptedLine, rejectedLine, coverLine, entryLines, listing}
-use Rattle.listing.specs.Coded.{frontNumber, lines_of, size_of, text_of}
+use Rattle.listing.specs.Listing.{refusal_line, accepted_line, rejected_line, cover_line, entry_lines, listing}
+use Rattle.listing.specs.Coded.{front_number, lines_of, size_of, text_of}
 use Rattle.listing.proofs.Covers.{all-covers}
 
 -- a number below 65,536 is read back from its two bytes
@@ -24,27 +24,27 @@ two-read : (k : ℕ) → k < 65536 → k / 256 % 256 * 256 + k % 256 ≡ k
 two-read k h = omega (arith, h)
 
 -- the lines of a verdict on an entry
-abbrev verdictLines : ℕ → Field → Verdict → List ℕ
-verdictLines n entry v =
+abbrev verdict_lines : ℕ → Field → Verdict → List ℕ
+verdict_lines n entry v =
     elim v [
-      | refused number place ↦ refusalLine number place
-      | rejected payout reason ↦ rejectedLine n payout
-      | accepted cs ↦ acceptedLine n (length cs) (spare entry) ++ flat_map coverLine (numbered 0 cs)
+      | refused number place ↦ refusal_line number place
+      | rejected payout reason ↦ rejected_line n payout
+      | accepted cs ↦ accepted_line n (length cs) (spare entry) ++ flat_map cover_line (numbered 0 cs)
     ]
 
 module _ (n : ℕ) (entry : Field) (behind : List ℕ) where
   abbrev front : Verdict → List ℕ
   front v = recorded entry v ++ behind
 
-  lines-back : (v : Verdict) → Fitting entry v → lines_of n (front v) ≡ verdictLines n entry v
-  unfolding lines_of frontNumber recorded twoBytes outcome first_of second_of written
+  lines-back : (v : Verdict) → Fitting entry v → lines_of n (front v) ≡ verdict_lines n entry v
+  unfolding lines_of front_number recorded two_bytes outcome first_of second_of written
   lines-back (refused k p) f = rw (two-read k f.first_fits, two-read p f.second_fits)
   lines-back (rejected k r) f = rw (two-read k f.first_fits)
   lines-back (accepted cs) f =
       rw (two-read (length cs) f.first_fits, two-read (spare entry) f.second_fits, append_assoc (sheet cs) (drop (3 * length cs) []) behind, all-covers cs (drop (3 * length cs) [] ++ behind))
 
   size_back : (v : Verdict) → Fitting entry v → size_of (front v) ≡ length (recorded entry v)
-  unfolding size_of frontNumber recorded twoBytes outcome first_of written
+  unfolding size_of front_number recorded two_bytes outcome first_of written
   size_back (refused k p) f = refl
   size_back (rejected k r) f = refl
   size_back (accepted cs) f = rw (two-read (length cs) f.first_fits, drop-nil (3 * length cs), append-nil (sheet cs), sheet-long cs) (omega arith)
@@ -64,29 +64,29 @@ counted (suc k) n =
     let e : n + suc k ≡ suc n + k = omega arith in
     rw e (sym (append_assoc (below n) (n ∷ []) (counting (suc n) k)) ∙ counted k (suc n))
 
-module _ (file : List ℕ) (p : askFile file ≡ passes) (behind : List ℕ) where
-  entry-text : (n : ℕ) → n < length (entries (fields file)) → (rest : List ℕ) → lines_of n (recordOn file n ++ rest) ≡ entryLines (fields file) n
-  unfolding recordOn entryLines
+module _ (file : List ℕ) (p : ask_file file ≡ passes) (behind : List ℕ) where
+  entry-text : (n : ℕ) → n < length (entries (fields file)) → (rest : List ℕ) → lines_of n (record_on file n ++ rest) ≡ entry_lines (fields file) n
+  unfolding record_on entry_lines
   entry-text n h rest =
-      lines-back n (entry_at (fields file) n).this rest (verdictOn file n) (entry-fits file p n h) ∙ ap (verdictLines n (entry_at (fields file) n).this) (on-entry file p n)
+      lines-back n (entry_at (fields file) n).this rest (verdict_on file n) (entry-fits file p n h) ∙ ap (verdict_lines n (entry_at (fields file) n).this) (on-entry file p n)
 
-  after_text : (n : ℕ) → n < length (entries (fields file)) → (rest : List ℕ) → drop (size_of (recordOn file n ++ rest)) (recordOn file n ++ rest) ≡ rest
-  unfolding recordOn
-  after_text n h rest = after-back n (entry_at (fields file) n).this rest (verdictOn file n) (entry-fits file p n h)
+  after_text : (n : ℕ) → n < length (entries (fields file)) → (rest : List ℕ) → drop (size_of (record_on file n ++ rest)) (record_on file n ++ rest) ≡ rest
+  unfolding record_on
+  after_text n h rest = after-back n (entry_at (fields file) n).this rest (verdict_on file n) (entry-fits file p n h)
 
   text-from : (k n : ℕ) → n + k ≤ length (entries (fields file)) →
-      text_of k n (flat_map (recordOn file) (counting n k) ++ behind) ≡ flat_map (entryLines (fields file)) (counting n k)
+      text_of k n (flat_map (record_on file) (counting n k) ++ behind) ≡ flat_map (entry_lines (fields file)) (counting n k)
   unfolding text_of counting flat_map
   text-from zero n h = refl
   text-from (suc k) n h =
       rw (
-        append_assoc (recordOn file n) (flat_map (recordOn file) (counting (suc n) k)) behind,
-        entry-text n (omega (arith, h)) (flat_map (recordOn file) (counting (suc n) k) ++ behind),
-        after_text n (omega (arith, h)) (flat_map (recordOn file) (counting (suc n) k) ++ behind),
+        append_assoc (record_on file n) (flat_map (record_on file) (counting (suc n) k)) behind,
+        entry-text n (omega (arith, h)) (flat_map (record_on file) (counting (suc n) k) ++ behind),
+        after_text n (omega (arith, h)) (flat_map (record_on file) (counting (suc n) k) ++ behind),
         text-from k (suc n) (omega (arith, h)),
       )
 
-  all-text : text_of (length (entries (fields file))) 0 (flat_map (recordOn file) (below (length (entries (fields file)))) ++ behind) ≡ listing file
+  all-text : text_of (length (entries (fields file))) 0 (flat_map (record_on file) (below (length (entries (fields file)))) ++ behind) ≡ listing file
   unfolding listing below
   all-text =
       let e : counting 0 (length (entries (fields file))) ≡ below (length (entries (fields file))) =
@@ -94,25 +94,25 @@ module _ (file : List ℕ) (p : askFile file ≡ passes) (behind : List ℕ) whe
       rw (listing, p, ← e) (text-from (length (entries (fields file))) 0 (omega arith))
 
 module _ (file behind : List ℕ) where
-  each-text : text_of (recordCount file) 0 (eachRecord file ++ behind) ≡ listing file
-  unfolding text_of recordCount eachRecord listing
-  each-text = go (askFile file) refl
+  each-text : text_of (record_count file) 0 (each_record file ++ behind) ≡ listing file
+  unfolding text_of record_count each_record listing
+  each-text = go (ask_file file) refl
     where
-      go : (a : Asked) → askFile file ≡ a → text_of (recordCount file) 0 (eachRecord file ++ behind) ≡ listing file
-      go (fails k p) e = rw (recordCount, eachRecord, listing, e, lines-back 0 nothing behind (refused k p) (file-fits file k p e), append-nil (refusalLine k p))
-      go passes e = rw (recordCount, eachRecord, e) (all-text file e behind)
+      go : (a : Asked) → ask_file file ≡ a → text_of (record_count file) 0 (each_record file ++ behind) ≡ listing file
+      go (fails k p) e = rw (record_count, each_record, listing, e, lines-back 0 nothing behind (refused k p) (file-fits file k p e), append-nil (refusal_line k p))
+      go passes e = rw (record_count, each_record, e) (all-text file e behind)
 
 -- from the records as they were written, all of them
 module _ (file records : List ℕ) (r : Recorded) (before u : List ℕ) (m : ℕ) (w : Written (text_of r.count 0 records) before 0 u m) where
-  listing-text : (zeros : List ℕ) → EachRecorded file zeros records r → length (eachRecord file) ≤ length zeros → Written (listing file) before 0 u m
+  listing-text : (zeros : List ℕ) → EachRecorded file zeros records r → length (each_record file) ≤ length zeros → Written (listing file) before 0 u m
   listing-text zeros i h =
-      let fits : 0 + length (eachRecord file) ≤ length zeros = omega (arith, h) in
-      let e : records ≡ eachRecord file ++ drop (0 + length (eachRecord file)) zeros = i.bytes.kept ∙ sets-eq (eachRecord file) zeros 0 fits in
-      rw (← each-text file (drop (0 + length (eachRecord file)) zeros), ← e, ← i.many) w
+      let fits : 0 + length (each_record file) ≤ length zeros = omega (arith, h) in
+      let e : records ≡ each_record file ++ drop (0 + length (each_record file)) zeros = i.bytes.kept ∙ sets-eq (each_record file) zeros 0 fits in
+      rw (← each-text file (drop (0 + length (each_record file)) zeros), ← e, ← i.many) w
 
   -- into bytes that are enough for every file
-  pub listing-long : EachRecorded file (replicate recordsEnough 0) records r → Written (listing file) before 0 u m
-  listing-long i = listing-text (replicate recordsEnough 0) i (omega (arith, length-replicate {A = ℕ} recordsEnough 0, each-enough file))
+  pub listing-long : EachRecorded file (replicate records_enough 0) records r → Written (listing file) before 0 u m
+  listing-long i = listing-text (replicate records_enough 0) i (omega (arith, length-replicate {A = ℕ} records_enough 0, each-enough file))
 
   -- or with room for more
   pub listing-short : EachRecorded file (replicate 1024 0) records r → r.end < 1024 → Written (listing file) before 0 u m

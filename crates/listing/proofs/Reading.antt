@@ -3,37 +3,37 @@ use Rattle.std.proofs.Common.{ℕ, suc, ◌+◌, ◌-◌, ◌*◌, ◌≤◌, �
 use Rattle.output.specs.Output.{Written}
 use Rattle.output.proofs.Buffer.{written_none, written-within, same-room, written_then}
 use Rattle.contract.specs.Records.{below}
-use Rattle.listing.specs.Decimal.{twoOf, threeOf}
-use Rattle.listing.specs.Listing.{refusalLine, acceptedLine, rejectedLine}
-use Rattle.listing.specs.Coded.{coverLineAt, frontNumber, lines_of, size_of, text_of}
+use Rattle.listing.specs.Decimal.{two_of, three_of}
+use Rattle.listing.specs.Listing.{refusal_line, accepted_line, rejected_line}
+use Rattle.listing.specs.Coded.{cover_line_at, front_number, lines_of, size_of, text_of}
 
 module _ (s : List ℕ) (what : ℕ) (e : what ≡ get_or s 0 0) where
   pub size-alone : (what ≡ 0 → ⊥) → 5 ≡ size_of s
   unfolding size_of
   size-alone z = rw (← e, ne_eqb what 0 z)
 
-  module _ (a : List ℕ) (f : a ≡ drop 1 s) (first : ℕ) (g : first ≡ frontNumber a) where
+  module _ (a : List ℕ) (f : a ≡ drop 1 s) (first : ℕ) (g : first ≡ front_number a) where
     pub size-covers : what ≡ 0 → 5 + 3 * first ≡ size_of s
     unfolding size_of
     size-covers z = rw (← e, eq-eqb what 0 z, ← f, ← g)
 
     module _ (n : ℕ) (t : List ℕ) (at : ℕ) (u : List ℕ) (r : ℕ) where
-      pub lines-rejected : (what ≡ 2 → ⊥) → what ≡ 1 → Written (twoOf (0x65 ∷ 0x20 ∷ []) n (0x20 ∷ 0x6E ∷ 0x6F ∷ 0x20 ∷ []) first) t at u r →
+      pub lines-rejected : (what ≡ 2 → ⊥) → what ≡ 1 → Written (two_of (0x65 ∷ 0x20 ∷ []) n (0x20 ∷ 0x6_e ∷ 0x6_f ∷ 0x20 ∷ []) first) t at u r →
           Written (lines_of n s) t at u r
-      unfolding lines_of rejectedLine
+      unfolding lines_of rejected_line
       lines-rejected y z w = rw (← e, ne_eqb what 2 y, eq-eqb what 1 z, ← f, ← g) w
 
-      module _ (b : List ℕ) (h : b ≡ drop 3 s) (second : ℕ) (k : second ≡ frontNumber b) where
-        pub lines-refused : what ≡ 2 → Written (twoOf (0x72 ∷ 0x20 ∷ []) first (0x20 ∷ []) second) t at u r → Written (lines_of n s) t at u r
-        unfolding lines_of refusalLine
+      module _ (b : List ℕ) (h : b ≡ drop 3 s) (second : ℕ) (k : second ≡ front_number b) where
+        pub lines-refused : what ≡ 2 → Written (two_of (0x72 ∷ 0x20 ∷ []) first (0x20 ∷ []) second) t at u r → Written (lines_of n s) t at u r
+        unfolding lines_of refusal_line
         lines-refused z w = rw (← e, eq-eqb what 2 z, ← f, ← g, ← h, ← k) w
 
-        pub lines-accepted : (what ≡ 2 → ⊥) → (what ≡ 1 → ⊥) → Written (threeOf (0x65 ∷ 0x20 ∷ []) n (0x20 ∷ 0x6F ∷ 0x6B ∷ 0x20 ∷ []) first second) t at u r →
-            (c : List ℕ) → c ≡ drop 5 s → (v : List ℕ) (m : ℕ) → Written (flat_map (coverLineAt c) (below first)) u r v m → Written (lines_of n s) t at v m
-        unfolding lines_of acceptedLine
+        pub lines-accepted : (what ≡ 2 → ⊥) → (what ≡ 1 → ⊥) → Written (three_of (0x65 ∷ 0x20 ∷ []) n (0x20 ∷ 0x6_f ∷ 0x6_b ∷ 0x20 ∷ []) first second) t at u r →
+            (c : List ℕ) → c ≡ drop 5 s → (v : List ℕ) (m : ℕ) → Written (flat_map (cover_line_at c) (below first)) u r v m → Written (lines_of n s) t at v m
+        unfolding lines_of accepted_line
         lines-accepted y z w c l v m x =
             rw (← e, ne_eqb what 2 y, ne_eqb what 1 z, ← f, ← g, ← h, ← k, ← l)
-            (written_then (acceptedLine n first second) t at u r w (flat_map (coverLineAt c) (below first)) v m x)
+            (written_then (accepted_line n first second) t at u r w (flat_map (cover_line_at c) (below first)) v m x)
 
 -- the records before the n-th are read, and whoever writes the lines of the rest has written all
 pub record Reading (count : ℕ) (records before buffer rest : List ℕ) (n at : ℕ) : Type 0 where

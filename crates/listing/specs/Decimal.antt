@@ -11,9 +11,9 @@ unfoldable pub decimal : ℕ → List ℕ
 decimal n = digits (suc n) n
 
 -- a line of two texts with a number behind each
-abbrev pub twoOf : (a : List ℕ) (i : ℕ) (b : List ℕ) (j : ℕ) → List ℕ
-twoOf a i b j = a ++ (decimal i ++ (b ++ (decimal j ++ 0x0A ∷ [])))
+abbrev pub two_of : (a : List ℕ) (i : ℕ) (b : List ℕ) (j : ℕ) → List ℕ
+two_of a i b j = a ++ (decimal i ++ (b ++ (decimal j ++ 0x0_a ∷ [])))
 
 -- a line of three, the third behind a space
-abbrev pub threeOf : (a : List ℕ) (i : ℕ) (b : List ℕ) (j last : ℕ) → List ℕ
-threeOf a i b j last = a ++ (decimal i ++ (b ++ (decimal j ++ 0x20 ∷ (decimal last ++ 0x0A ∷ []))))
+abbrev pub three_of : (a : List ℕ) (i : ℕ) (b : List ℕ) (j last : ℕ) → List ℕ
+three_of a i b j last = a ++ (decimal i ++ (b ++ (decimal j ++ 0x20 ∷ (decimal last ++ 0x0_a ∷ []))))

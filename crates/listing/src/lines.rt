@@ -4,7 +4,7 @@ ghost use mathlib.Core.List.{flat_map};
 ghost use Rattle.output.specs.Output.{Written};
 ghost use Rattle.contract.specs.Records.{below};
 ghost use Rattle.listing.specs.Listing as rules;
-ghost use Rattle.listing.specs.Coded.{coverLineAt, frontNumber, lines_of, size_of, text_of};
+ghost use Rattle.listing.specs.Coded.{cover_line_at, front_number, lines_of, size_of, text_of};
 
 use super::text::{write_three, write_two};
 use contract::records::each_record;
@@ -20,7 +20,7 @@ const SHORT_RECORDS: usize = 1024;
 fn cover_line(covers: &[u8], k: usize, buffer: &mut [u8], at: usize) -> usize
     requires few { k < 65536 }
     requires room { at ≤ length buffer.old }
-    ensures { Written (coverLineAt covers.now k) buffer.old at buffer.new result }
+    ensures { Written (cover_line_at covers.now k) buffer.old at buffer.new result }
 {
     let kind = byte_at(covers, 3 * k) as usize;
     let high = byte_at(covers, 3 * k + 1) as usize;
@@ -32,7 +32,7 @@ fn cover_line(covers: &[u8], k: usize, buffer: &mut [u8], at: usize) -> usize
 fn cover_lines(covers: &[u8], count: usize, buffer: &mut [u8], at: usize) -> usize
     requires few { count < 65536 }
     requires room { at ≤ length buffer.old }
-    ensures { Written (flat_map (coverLineAt covers.now) (below count)) buffer.old at buffer.new result }
+    ensures { Written (flat_map (cover_line_at covers.now) (below count)) buffer.old at buffer.new result }
 {
     let mut k = 0;
     let mut m = at;
@@ -45,7 +45,7 @@ fn cover_lines(covers: &[u8], count: usize, buffer: &mut [u8], at: usize) -> usi
 
 // The number in the first two bytes, most significant first.
 fn front_number(s: &[u8]) -> usize
-    ensures { (result ≡ frontNumber s.now) × (result < 65536) }
+    ensures { (result ≡ front_number s.now) × (result < 65536) }
 {
     byte_at(s, 0) as usize * 256 + byte_at(s, 1) as usize
 }

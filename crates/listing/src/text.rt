@@ -1,7 +1,7 @@
 // Texts and numbers in decimal digits, written one behind the other into a lent buffer.
 ghost use Rattle.std.specs.Prelude.{◌++◌, ◌≤◌, length};
 ghost use Rattle.output.specs.Output.{Written};
-ghost use Rattle.listing.specs.Decimal.{decimal, twoOf, threeOf};
+ghost use Rattle.listing.specs.Decimal.{decimal, two_of, three_of};
 
 use output::{write_byte, write_text};
 
@@ -30,7 +30,7 @@ fn write_both(text: &[u8], number: usize, buffer: &mut [u8], n: usize) -> usize
 // Writes a line of two texts with a number behind each.
 pub fn write_two(a: &[u8], i: usize, b: &[u8], j: usize, buffer: &mut [u8], n: usize) -> usize
     requires { n ≤ length buffer.old }
-    ensures { Written (twoOf a.now i b.now j) buffer.old n buffer.new result }
+    ensures { Written (two_of a.now i b.now j) buffer.old n buffer.new result }
 {
     let m = write_both(a, i, buffer, n);
     let k = write_both(b, j, buffer, m);
@@ -48,7 +48,7 @@ pub fn write_three(
     n: usize,
 ) -> usize
     requires { n ≤ length buffer.old }
-    ensures { Written (threeOf a.now i b.now j last) buffer.old n buffer.new result }
+    ensures { Written (three_of a.now i b.now j last) buffer.old n buffer.new result }
 {
     let m = write_both(a, i, buffer, n);
     let k = write_both(b, j, buffer, m);

@@ -2,30 +2,30 @@
 use Rattle.std.proofs.Common.{ℕ, ◌-◌, ◌≤◌, ◌<◌, ◌≡◌, refl, sym, ap, ◌∙◌, Bool, true, false, not, List, Option, lt-ltb, le-ltb, eqb, ltb, get_or, drop}
 use mathlib.Core.Option.{none, some}
 use borrow.Author.Tests.{not-true, not-false}
-use Rattle.laws.specs.Texts.{sameBytes}
-use Rattle.laws.specs.Numbers.{downFrom}
+use Rattle.laws.specs.Texts.{same_bytes}
+use Rattle.laws.specs.Numbers.{down_from}
 use Rattle.laws.specs.Lists.{any, find, position}
 use Rattle.fields.specs.Field.{Field, Fields, fields, front}
-use Rattle.model.specs.Model.{stateNames}
+use Rattle.model.specs.Model.{state_names}
 use Rattle.walking.specs.Walking.{peel, present}
 use Rattle.tokens.specs.Tokens.{differ}
-use Rattle.guards.specs.Payouts.{payoutToken, payoutAmount}
-use Rattle.guards.specs.Asked.{askedToken, paidAt, askedAmount}
+use Rattle.guards.specs.Payouts.{payout_token, payout_amount}
+use Rattle.guards.specs.Asked.{asked_token, paid_at, asked_amount}
 use Rattle.entries.specs.Entered.{entry_of}
 use Rattle.entries.specs.declared.entry.Entry.{Entry}
-use Rattle.reserves.specs.Reserves.{reserveBoundingPayout}
-use Rattle.reserves.specs.Candidates.{stateIndex}
-use Rattle.reserves.specs.Covers.{reserveOf}
+use Rattle.reserves.specs.Reserves.{reserve_bounding_payout}
+use Rattle.reserves.specs.Candidates.{state_index}
+use Rattle.reserves.specs.Covers.{reserve_of}
 use Rattle.reserves.specs.declared.covering.Reserve.{Reserve as Reserved}
 use Rattle.reserves.specs.declared.covering.Reserve.TheVariants.{Covers, Nothing}
-use Rattle.backings.specs.Marked.{usedAt}
-use Rattle.backings.specs.Tables.{tokenAt, equalTo, boundedBy, firstFree, firstTaken}
+use Rattle.backings.specs.Marked.{used_at}
+use Rattle.backings.specs.Tables.{token_at, equal_to, bounded_by, first_free, first_taken}
 use Rattle.backings.specs.declared.marks.Marks.{Marks as Coded}
-use Rattle.matching.specs.Matching.{Backing, Marks, equals, bounds, equalCover, boundingCover, takeReserve, byReserve, byBounding, notTaken, byEqual, answer}
+use Rattle.matching.specs.Matching.{Backing, Marks, equals, bounds, equal_cover, bounding_cover, take_reserve, by_reserve, by_bounding, not_taken, by_equal, answer}
 use Rattle.matching.specs.Matching.Source.{debit, parameter}
-use Rattle.matching.specs.Standing.{marksOf, backingsOf, backingAt}
-use Rattle.matching.specs.Prepared.{Ready, payoutAt}
-use Rattle.matching.specs.Coded.{coded, codedCover, atPayout, equalAt, boundingAt, reserveAt, afterCover, afterAnswer}
+use Rattle.matching.specs.Standing.{marks_of, backings_of, backing_at}
+use Rattle.matching.specs.Prepared.{Ready, payout_at}
+use Rattle.matching.specs.Coded.{coded, coded_cover, at_payout, equal_at, bounding_at, reserve_at, after_cover, after_answer}
 use Rattle.matching.specs.declared.answer.Cover.{Cover}
 use Rattle.matching.specs.declared.answer.Cover.TheVariants.{EqualDebit, EqualParameter, BoundingDebit, BoundingParameter, Reserve}
 use Rattle.matching.specs.declared.answer.Reason.{Reason}
@@ -38,46 +38,46 @@ use Rattle.matching.proofs.Found.{free-some, free-none, taken-some}
 
 -- the cover by backing number i
 module _ (file : List ℕ) (en : Entry) (i : ℕ) where
-  pub equal-coded : codedCover (equalCover (backingAt file en i)) ≡ equalAt en.debits i
-  unfolding backingAt equalAt
+  pub equal-coded : coded_cover (equal_cover (backing_at file en i)) ≡ equal_at en.debits i
+  unfolding backing_at equal_at
   equal-coded = go (ltb i en.debits) refl
     where
-      go : (b : Bool) → ltb i en.debits ≡ b → codedCover (equalCover (backingAt file en i)) ≡ equalAt en.debits i
+      go : (b : Bool) → ltb i en.debits ≡ b → coded_cover (equal_cover (backing_at file en i)) ≡ equal_at en.debits i
       go true e = rw e
       go false e = rw e
 
-  pub bounding-coded : codedCover (boundingCover (backingAt file en i)) ≡ boundingAt en.debits i
-  unfolding backingAt boundingAt
+  pub bounding-coded : coded_cover (bounding_cover (backing_at file en i)) ≡ bounding_at en.debits i
+  unfolding backing_at bounding_at
   bounding-coded = go (ltb i en.debits) refl
     where
-      go : (b : Bool) → ltb i en.debits ≡ b → codedCover (boundingCover (backingAt file en i)) ≡ boundingAt en.debits i
+      go : (b : Bool) → ltb i en.debits ≡ b → coded_cover (bounding_cover (backing_at file en i)) ≡ bounding_at en.debits i
       go true e = rw e
       go false e = rw e
 
 module _ (count i : ℕ) where
-  pub equal-debit : i < count → EqualDebit i ≡ equalAt count i
-  unfolding equalAt
+  pub equal-debit : i < count → EqualDebit i ≡ equal_at count i
+  unfolding equal_at
   equal-debit h = rw (lt-ltb i count h)
 
-  pub equal-parameter : count ≤ i → EqualParameter (i - count) ≡ equalAt count i
-  unfolding equalAt
+  pub equal-parameter : count ≤ i → EqualParameter (i - count) ≡ equal_at count i
+  unfolding equal_at
   equal-parameter h = rw (le-ltb i count h)
 
-  pub bounding-debit : i < count → BoundingDebit i ≡ boundingAt count i
-  unfolding boundingAt
+  pub bounding-debit : i < count → BoundingDebit i ≡ bounding_at count i
+  unfolding bounding_at
   bounding-debit h = rw (lt-ltb i count h)
 
-  pub bounding-parameter : count ≤ i → BoundingParameter (i - count) ≡ boundingAt count i
-  unfolding boundingAt
+  pub bounding-parameter : count ≤ i → BoundingParameter (i - count) ≡ bounding_at count i
+  unfolding bounding_at
   bounding-parameter h = rw (le-ltb i count h)
 
 -- the tests of a payout's backings are tests of their amounts
-pub equals-amount : (p : Field) (b : Backing) → equals p b ≡ equalTo (payoutAmount p) b.amount
-unfolding equals equalTo
+pub equals-amount : (p : Field) (b : Backing) → equals p b ≡ equal_to (payout_amount p) b.amount
+unfolding equals equal_to
 equals-amount p b = refl
 
-pub bounds-amount : (p : Field) (b : Backing) → bounds p b ≡ boundedBy (payoutAmount p) b.amount
-unfolding bounds boundedBy
+pub bounds-amount : (p : Field) (b : Backing) → bounds p b ≡ bounded_by (payout_amount p) b.amount
+unfolding bounds bounded_by
 bounds-amount p b = refl
 
 -- The steps for the k-th payout, as the code reads it
@@ -90,158 +90,158 @@ module _ (file : List ℕ) (en : Entry) (candidates facts : List ℕ) (pass : Pa
   entry = entry_of file en.place
 
   abbrev marks : Marks
-  marks = marksOf (backingsOf file en.place) pass.marks
+  marks = marks_of (backings_of file en.place) pass.marks
 
   abbrev payout : Field
-  payout = payoutAt file en k
+  payout = payout_at file en k
 
   module _ (s : List ℕ) (z : s ≡ drop (get_or en.paid k 0) file) where
     -- a split without an amount
-    module _ (x : List ℕ) (e : front x ≡ payoutAmount (front s)) (there : Bool) (f : there ≡ present (front x)) where
-      is-there : present (payoutAmount payout) ≡ there
+    module _ (x : List ℕ) (e : front x ≡ payout_amount (front s)) (there : Bool) (f : there ≡ present (front x)) where
+      is-there : present (payout_amount payout) ≡ there
       is-there = rw (← z, ← e) (sym f)
 
-      pub answer-split : not there ≡ true → Rejected SplitWithoutAmount ≡ coded (atPayout answer file en pass.marks k)
+      pub answer-split : not there ≡ true → Rejected SplitWithoutAmount ≡ coded (at_payout answer file en pass.marks k)
       unfolding coded
       answer-split n = sym (ap coded (split_step model entry marks payout (is-there ∙ not-true there n)))
 
-      pub answer-equal : not there ≡ false → (a : Answer) → a ≡ coded (atPayout byEqual file en pass.marks k) → a ≡ coded (atPayout answer file en pass.marks k)
+      pub answer-equal : not there ≡ false → (a : Answer) → a ≡ coded (at_payout by_equal file en pass.marks k) → a ≡ coded (at_payout answer file en pass.marks k)
       answer-equal n a h = h ∙ sym (ap coded (answer-step model entry marks payout (is-there ∙ not-false there n)))
 
     -- an equal backing
-    module _ (i : ℕ) (f : i ≡ firstFree file en pass.marks (equalTo (payoutAmount (front s)))) where
-      equal-first : i ≡ firstFree file en pass.marks (equalTo (payoutAmount payout))
+    module _ (i : ℕ) (f : i ≡ first_free file en pass.marks (equal_to (payout_amount (front s)))) where
+      equal-first : i ≡ first_free file en pass.marks (equal_to (payout_amount payout))
       equal-first = rw (← z) f
 
-      pub equal-none : en.total ≤ i → (a : Answer) → a ≡ coded (atPayout notTaken file en pass.marks k) → a ≡ coded (atPayout byEqual file en pass.marks k)
-      unfolding marksOf
+      pub equal-none : en.total ≤ i → (a : Answer) → a ≡ coded (at_payout not_taken file en pass.marks k) → a ≡ coded (at_payout by_equal file en pass.marks k)
+      unfolding marks_of
       equal-none h a e =
           e
           ∙ sym (ap coded (no-equal-step model entry marks payout
-          (free-none file en w.prepared.entered pass.marks (equalTo (payoutAmount payout)) (equals payout) (equals-amount payout) i equal-first h)))
+          (free-none file en w.prepared.entered pass.marks (equal_to (payout_amount payout)) (equals payout) (equals-amount payout) i equal-first h)))
 
-      module _ (h : i < en.total) (b : Bool) (g : b ≡ differ (tokenAt file en i) (payoutToken (front s))) where
-        equal-token : differ (backingAt file en i).token (payoutToken payout) ≡ b
-        unfolding backingAt
+      module _ (h : i < en.total) (b : Bool) (g : b ≡ differ (token_at file en i) (payout_token (front s))) where
+        equal-token : differ (backing_at file en i).token (payout_token payout) ≡ b
+        unfolding backing_at
         equal-token = rw (← z) (sym g)
 
-        equal-found : find (equals payout) marks.free ≡ some (backingAt file en i)
-        unfolding marksOf
-        equal-found = free-some file en w.prepared.entered pass.marks (equalTo (payoutAmount payout)) (equals payout) (equals-amount payout) i equal-first h
+        equal-found : find (equals payout) marks.free ≡ some (backing_at file en i)
+        unfolding marks_of
+        equal-found = free-some file en w.prepared.entered pass.marks (equal_to (payout_amount payout)) (equals payout) (equals-amount payout) i equal-first h
 
-        pub equal-conflict : b ≡ true → Rejected ConflictAtEqual ≡ coded (atPayout byEqual file en pass.marks k)
+        pub equal-conflict : b ≡ true → Rejected ConflictAtEqual ≡ coded (at_payout by_equal file en pass.marks k)
         unfolding coded
         equal-conflict n =
-            sym (ap coded (equal-step model entry marks payout (backingAt file en i) equal-found
-            ∙ conflict-step marks payout (equals payout) (backingAt file en i) _ _ (equal-token ∙ n)))
+            sym (ap coded (equal-step model entry marks payout (backing_at file en i) equal-found
+            ∙ conflict-step marks payout (equals payout) (backing_at file en i) _ _ (equal-token ∙ n)))
 
-        pub equal-covers : b ≡ false → (c : Cover) → c ≡ equalAt en.debits i → Covered c ≡ coded (atPayout byEqual file en pass.marks k)
+        pub equal-covers : b ≡ false → (c : Cover) → c ≡ equal_at en.debits i → Covered c ≡ coded (at_payout by_equal file en pass.marks k)
         unfolding coded
         equal-covers n c j =
             ap (λ a. Covered a) (j ∙ sym (equal-coded file en i))
-            ∙ sym (ap coded (equal-step model entry marks payout (backingAt file en i) equal-found
-            ∙ take_step marks payout (equals payout) (backingAt file en i) _ _ (equal-token ∙ n)))
+            ∙ sym (ap coded (equal-step model entry marks payout (backing_at file en i) equal-found
+            ∙ take_step marks payout (equals payout) (backing_at file en i) _ _ (equal-token ∙ n)))
 
     -- a taken one
-    module _ (b : Bool) (f : b ≡ ltb (firstTaken file en pass.marks (equalTo (payoutAmount (front s)))) en.total) where
-      taken_is : any (equalTo (payoutAmount payout)) marks.taken ≡ b
-      unfolding marksOf
+    module _ (b : Bool) (f : b ≡ ltb (first_taken file en pass.marks (equal_to (payout_amount (front s)))) en.total) where
+      taken_is : any (equal_to (payout_amount payout)) marks.taken ≡ b
+      unfolding marks_of
       taken_is =
-          sym (taken-some file en w.prepared.entered pass.marks (equalTo (payoutAmount payout)) (equals payout) (equals-amount payout))
+          sym (taken-some file en w.prepared.entered pass.marks (equal_to (payout_amount payout)) (equals payout) (equals-amount payout))
           ∙ rw (← z) (sym f)
 
-      pub taken-rejects : b ≡ true → Rejected AmountTaken ≡ coded (atPayout notTaken file en pass.marks k)
+      pub taken-rejects : b ≡ true → Rejected AmountTaken ≡ coded (at_payout not_taken file en pass.marks k)
       unfolding coded
       taken-rejects h = sym (ap coded (taken_step model entry marks payout (taken_is ∙ h)))
 
-      pub taken_none : b ≡ false → (a : Answer) → a ≡ coded (atPayout byBounding file en pass.marks k) → a ≡ coded (atPayout notTaken file en pass.marks k)
+      pub taken_none : b ≡ false → (a : Answer) → a ≡ coded (at_payout by_bounding file en pass.marks k) → a ≡ coded (at_payout not_taken file en pass.marks k)
       taken_none h a e = e ∙ sym (ap coded (untaken-step model entry marks payout (taken_is ∙ h)))
 
     -- a bounding one
-    module _ (i : ℕ) (f : i ≡ firstFree file en pass.marks (boundedBy (payoutAmount (front s)))) where
-      bounding-first : i ≡ firstFree file en pass.marks (boundedBy (payoutAmount payout))
+    module _ (i : ℕ) (f : i ≡ first_free file en pass.marks (bounded_by (payout_amount (front s)))) where
+      bounding-first : i ≡ first_free file en pass.marks (bounded_by (payout_amount payout))
       bounding-first = rw (← z) f
 
-      pub bounding-none : en.total ≤ i → (a : Answer) → a ≡ coded (atPayout byReserve file en pass.marks k) → a ≡ coded (atPayout byBounding file en pass.marks k)
-      unfolding marksOf
+      pub bounding-none : en.total ≤ i → (a : Answer) → a ≡ coded (at_payout by_reserve file en pass.marks k) → a ≡ coded (at_payout by_bounding file en pass.marks k)
+      unfolding marks_of
       bounding-none h a e =
           e
           ∙ sym (ap coded (no-bounding-step model entry marks payout
-          (free-none file en w.prepared.entered pass.marks (boundedBy (payoutAmount payout)) (bounds payout) (bounds-amount payout) i bounding-first h)))
+          (free-none file en w.prepared.entered pass.marks (bounded_by (payout_amount payout)) (bounds payout) (bounds-amount payout) i bounding-first h)))
 
-      module _ (h : i < en.total) (b : Bool) (g : b ≡ differ (tokenAt file en i) (payoutToken (front s))) where
-        bounding-token : differ (backingAt file en i).token (payoutToken payout) ≡ b
-        unfolding backingAt
+      module _ (h : i < en.total) (b : Bool) (g : b ≡ differ (token_at file en i) (payout_token (front s))) where
+        bounding-token : differ (backing_at file en i).token (payout_token payout) ≡ b
+        unfolding backing_at
         bounding-token = rw (← z) (sym g)
 
-        bounding-found : find (bounds payout) marks.free ≡ some (backingAt file en i)
-        unfolding marksOf
-        bounding-found = free-some file en w.prepared.entered pass.marks (boundedBy (payoutAmount payout)) (bounds payout) (bounds-amount payout) i bounding-first h
+        bounding-found : find (bounds payout) marks.free ≡ some (backing_at file en i)
+        unfolding marks_of
+        bounding-found = free-some file en w.prepared.entered pass.marks (bounded_by (payout_amount payout)) (bounds payout) (bounds-amount payout) i bounding-first h
 
-        pub bounding-conflict : b ≡ true → Rejected ConflictAtBounding ≡ coded (atPayout byBounding file en pass.marks k)
+        pub bounding-conflict : b ≡ true → Rejected ConflictAtBounding ≡ coded (at_payout by_bounding file en pass.marks k)
         unfolding coded
         bounding-conflict n =
-            sym (ap coded (bounding-step model entry marks payout (backingAt file en i) bounding-found
-            ∙ conflict-step marks payout (bounds payout) (backingAt file en i) _ _ (bounding-token ∙ n)))
+            sym (ap coded (bounding-step model entry marks payout (backing_at file en i) bounding-found
+            ∙ conflict-step marks payout (bounds payout) (backing_at file en i) _ _ (bounding-token ∙ n)))
 
-        pub bounding-covers : b ≡ false → (c : Cover) → c ≡ boundingAt en.debits i → Covered c ≡ coded (atPayout byBounding file en pass.marks k)
+        pub bounding-covers : b ≡ false → (c : Cover) → c ≡ bounding_at en.debits i → Covered c ≡ coded (at_payout by_bounding file en pass.marks k)
         unfolding coded
         bounding-covers n c j =
             ap (λ a. Covered a) (j ∙ sym (bounding-coded file en i))
-            ∙ sym (ap coded (bounding-step model entry marks payout (backingAt file en i) bounding-found
-            ∙ take_step marks payout (bounds payout) (backingAt file en i) _ _ (bounding-token ∙ n)))
+            ∙ sym (ap coded (bounding-step model entry marks payout (backing_at file en i) bounding-found
+            ∙ take_step marks payout (bounds payout) (backing_at file en i) _ _ (bounding-token ∙ n)))
 
   -- a reserve
-  used-coded : (i : ℕ) → coded (takeReserve marks i) ≡ reserveAt pass.marks i
-  unfolding takeReserve reserveAt marksOf coded
-  used-coded i = go (any (eqb i) (downFrom (usedAt pass.marks) pass.marks.uses)) refl
+  used-coded : (i : ℕ) → coded (take_reserve marks i) ≡ reserve_at pass.marks i
+  unfolding take_reserve reserve_at marks_of coded
+  used-coded i = go (any (eqb i) (down_from (used_at pass.marks) pass.marks.uses)) refl
     where
-      go : (b : Bool) → any (eqb i) (downFrom (usedAt pass.marks) pass.marks.uses) ≡ b → coded (takeReserve marks i) ≡ reserveAt pass.marks i
+      go : (b : Bool) → any (eqb i) (down_from (used_at pass.marks) pass.marks.uses) ≡ b → coded (take_reserve marks i) ≡ reserve_at pass.marks i
       go true h = rw h
       go false h = rw h
 
   abbrev covering : Option (List ℕ)
-  covering = reserveBoundingPayout model entry (askedAmount file en.paid k) (askedToken file en.paid k)
+  covering = reserve_bounding_payout model entry (asked_amount file en.paid k) (asked_token file en.paid k)
 
-  asked-for : reserveBoundingPayout model entry (peel (payoutAmount payout)) (payoutToken payout) ≡ covering
-  unfolding askedAmount paidAt askedToken
+  asked-for : reserve_bounding_payout model entry (peel (payout_amount payout)) (payout_token payout) ≡ covering
+  unfolding asked_amount paid_at asked_token
   asked-for = refl
 
-  module _ (r : Reserved) (g : r ≡ reserveOf model covering) where
-    pub reserve-none : r ≡ Nothing → Rejected NoReserve ≡ coded (atPayout byReserve file en pass.marks k)
-    unfolding coded reserveOf
+  module _ (r : Reserved) (g : r ≡ reserve_of model covering) where
+    pub reserve-none : r ≡ Nothing → Rejected NoReserve ≡ coded (at_payout by_reserve file en pass.marks k)
+    unfolding coded reserve_of
     reserve-none h = go covering refl
       where
-        go : (o : Option (List ℕ)) → covering ≡ o → Rejected NoReserve ≡ coded (atPayout byReserve file en pass.marks k)
+        go : (o : Option (List ℕ)) → covering ≡ o → Rejected NoReserve ≡ coded (at_payout by_reserve file en pass.marks k)
         go none o = sym (ap coded (no-reserve-step model entry marks payout (asked-for ∙ o)))
         go (some n) o = cc
 
-    pub reserve-covers : (i : ℕ) → r ≡ Covers i → (a : Answer) → a ≡ reserveAt pass.marks i → a ≡ coded (atPayout byReserve file en pass.marks k)
-    unfolding reserveOf stateIndex
+    pub reserve-covers : (i : ℕ) → r ≡ Covers i → (a : Answer) → a ≡ reserve_at pass.marks i → a ≡ coded (at_payout by_reserve file en pass.marks k)
+    unfolding reserve_of state_index
     reserve-covers i h a j = go covering refl
       where
-        go : (o : Option (List ℕ)) → covering ≡ o → a ≡ coded (atPayout byReserve file en pass.marks k)
+        go : (o : Option (List ℕ)) → covering ≡ o → a ≡ coded (at_payout by_reserve file en pass.marks k)
         go none o = cc
         go (some n) o =
-            let z : i ≡ position (sameBytes n) (stateNames model) = cc in
+            let z : i ≡ position (same_bytes n) (state_names model) = cc in
             j ∙ sym (used-coded i) ∙ rw z (sym (ap coded (reserve-step model entry marks payout n (asked-for ∙ o))))
 
 -- a reserve that is used, and one that is not
-module _ (m : Coded) (i : ℕ) (b : Bool) (e : b ≡ any (eqb i) (downFrom (usedAt m) m.uses)) where
-  pub reserve-used : b ≡ true → Rejected ReserveUsed ≡ reserveAt m i
-  unfolding reserveAt
+module _ (m : Coded) (i : ℕ) (b : Bool) (e : b ≡ any (eqb i) (down_from (used_at m) m.uses)) where
+  pub reserve-used : b ≡ true → Rejected ReserveUsed ≡ reserve_at m i
+  unfolding reserve_at
   reserve-used h = rw (← e, h)
 
-  pub reserve-unused : b ≡ false → Covered (Reserve i) ≡ reserveAt m i
-  unfolding reserveAt
+  pub reserve-unused : b ≡ false → Covered (Reserve i) ≡ reserve_at m i
+  unfolding reserve_at
   reserve-unused h = rw (← e, h)
 
 -- the marks after an answer
 module _ (m : Coded) (count : ℕ) (a : Answer) where
-  pub marks-covered : (c : Cover) → a ≡ Covered c → (r : Coded) → r ≡ afterCover m count c → r ≡ afterAnswer m count a
-  unfolding afterAnswer
+  pub marks-covered : (c : Cover) → a ≡ Covered c → (r : Coded) → r ≡ after_cover m count c → r ≡ after_answer m count a
+  unfolding after_answer
   marks-covered c e r f = rw e f
 
-  pub marks-rejected : (x : Reason) → a ≡ Rejected x → m ≡ afterAnswer m count a
-  unfolding afterAnswer
+  pub marks-rejected : (x : Reason) → a ≡ Rejected x → m ≡ after_answer m count a
+  unfolding after_answer
   marks-rejected x e = rw e

@@ -1,11 +1,11 @@
 -- The code's cases are the definition's.
 use Rattle.std.proofs.Common.{ℕ, ◌+◌, ◌≡◌, refl}
-use Rattle.backings.specs.Marked.{without, withUsed}
+use Rattle.backings.specs.Marked.{without, with_used}
 use Rattle.backings.specs.declared.marks.Marks.{Marks as Coded}
 use Rattle.matching.specs.Matching as matching
-use Rattle.matching.specs.Matching.Cover.{equalDebit, equalParameter, boundingDebit, boundingParameter, reserve}
-use Rattle.matching.specs.Matching.Reason.{splitWithoutAmount, conflictAtEqual, amountTaken, conflictAtBounding, noReserve, reserveUsed}
-use Rattle.matching.specs.Coded.{coverOf, reasonOf, codedCover, codedReason, afterCover}
+use Rattle.matching.specs.Matching.Cover.{equal_debit, equal_parameter, bounding_debit, bounding_parameter, reserve}
+use Rattle.matching.specs.Matching.Reason.{split_without_amount, conflict_at_equal, amount_taken, conflict_at_bounding, no_reserve, reserve_used}
+use Rattle.matching.specs.Coded.{cover_of, reason_of, coded_cover, coded_reason, after_cover}
 use Rattle.matching.specs.declared.answer.Reason.{Reason}
 use Rattle.matching.specs.declared.answer.Reason.TheVariants.{SplitWithoutAmount, ConflictAtEqual, AmountTaken, ConflictAtBounding, NoReserve, ReserveUsed}
 use Rattle.matching.specs.declared.answer.Cover.{Cover}
@@ -13,43 +13,43 @@ use Rattle.matching.specs.declared.answer.Cover.TheVariants.{EqualDebit, EqualPa
 
 -- the marks after each kind of cover
 module _ (m : Coded) (count : ℕ) (c : Cover) (i : ℕ) (r : Coded) where
-  pub after-equal-debit : c ≡ EqualDebit i → r ≡ without m i → r ≡ afterCover m count c
-  unfolding afterCover
+  pub after-equal-debit : c ≡ EqualDebit i → r ≡ without m i → r ≡ after_cover m count c
+  unfolding after_cover
   after-equal-debit h e = rw h e
 
-  pub after-equal-parameter : c ≡ EqualParameter i → r ≡ without m (count + i) → r ≡ afterCover m count c
-  unfolding afterCover
+  pub after-equal-parameter : c ≡ EqualParameter i → r ≡ without m (count + i) → r ≡ after_cover m count c
+  unfolding after_cover
   after-equal-parameter h e = rw h e
 
-  pub after-bounding-debit : c ≡ BoundingDebit i → r ≡ without m i → r ≡ afterCover m count c
-  unfolding afterCover
+  pub after-bounding-debit : c ≡ BoundingDebit i → r ≡ without m i → r ≡ after_cover m count c
+  unfolding after_cover
   after-bounding-debit h e = rw h e
 
-  pub after-bounding-parameter : c ≡ BoundingParameter i → r ≡ without m (count + i) → r ≡ afterCover m count c
-  unfolding afterCover
+  pub after-bounding-parameter : c ≡ BoundingParameter i → r ≡ without m (count + i) → r ≡ after_cover m count c
+  unfolding after_cover
   after-bounding-parameter h e = rw h e
 
-  pub after-reserve : c ≡ Reserve i → r ≡ withUsed m i → r ≡ afterCover m count c
-  unfolding afterCover
+  pub after-reserve : c ≡ Reserve i → r ≡ with_used m i → r ≡ after_cover m count c
+  unfolding after_cover
   after-reserve h e = rw h e
 
 -- a cover and a reason of the definition as the code's and back, and a reason of the code's the other way round
-pub cover-back : (c : matching.Cover) → coverOf (codedCover c) ≡ c
-cover-back (equalDebit i) = refl
-cover-back (equalParameter i) = refl
-cover-back (boundingDebit i) = refl
-cover-back (boundingParameter i) = refl
+pub cover-back : (c : matching.Cover) → cover_of (coded_cover c) ≡ c
+cover-back (equal_debit i) = refl
+cover-back (equal_parameter i) = refl
+cover-back (bounding_debit i) = refl
+cover-back (bounding_parameter i) = refl
 cover-back (reserve i) = refl
 
-pub reason-back : (r : matching.Reason) → reasonOf (codedReason r) ≡ r
-reason-back splitWithoutAmount = refl
-reason-back conflictAtEqual = refl
-reason-back amountTaken = refl
-reason-back conflictAtBounding = refl
-reason-back noReserve = refl
-reason-back reserveUsed = refl
+pub reason-back : (r : matching.Reason) → reason_of (coded_reason r) ≡ r
+reason-back split_without_amount = refl
+reason-back conflict_at_equal = refl
+reason-back amount_taken = refl
+reason-back conflict_at_bounding = refl
+reason-back no_reserve = refl
+reason-back reserve_used = refl
 
-pub coded-back : (r : Reason) → codedReason (reasonOf r) ≡ r
+pub coded-back : (r : Reason) → coded_reason (reason_of r) ≡ r
 coded-back SplitWithoutAmount = refl
 coded-back ConflictAtEqual = refl
 coded-back AmountTaken = refl

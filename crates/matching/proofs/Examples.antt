@@ -3,56 +3,56 @@ use Rattle.std.proofs.Common.{ℕ, ◌≡◌, refl, List, [], ◌∷◌, ◌++�
 use Prim.Native.String.{String}
 use mathlib.Core.List.{flat_map}
 use mathlib.Core.Option.{none, some}
-use Rattle.laws.specs.Lists.{any, all, filter, find, removeFirst, position, numbered}
-use Rattle.laws.specs.Texts.{sameBytes, known}
-use Rattle.tags.specs.Tag.{State, Entry, Parameter, Guard, AddTo, SubtractFrom, ExpressionStatement, InAsset, Caller, Date, Member, Call, Checked, Wrapping, Eq, Ge, Sub, Mul, Div, composite, isExpression, isStatement, isWrapper, isAssign}
-use Rattle.fields.specs.Field.{Field, Fields, fields, fieldsTo, front, nth, row, fieldsFrom, size, sizes, placed, placedFrom}
-use Rattle.fields.proofs.Writing.{write, word, name, typeName, integer, identifier}
-use Rattle.model.specs.Model.{entries, params, body, genesis, stateNames}
-use Rattle.walking.specs.Walking.{peel, peelFirst, walk, walkParts, stmtExprs, bodyExprs, exprs, guards, ident, method, receiver, isDebit, isPayout, assetAmountBacker, isAssetParameter, assetParams, debits, payouts}
-use Rattle.equality.specs.Equality.{strip, sameText, exprEq, partsEq}
-use Rattle.conditions.specs.Conditions.{splitAnd, splitEach, splitFirst, negated, negatedEach, negatedFirst, conditionsOf, requiredConditions, opposite, operator}
-use Rattle.bounds.specs.Bounds.{goesLeft, wrappingInside, boundedByBacking, leftBounded}
-use Rattle.tokens.specs.Tokens.{single, differ, besideInAsset, tokenNamed, tokensNamed, admittedInflowToken, isInflow, isCredit, isFunding}
-use Rattle.fundings.specs.FundingTokens.{funds, ledgerFundingTokens, fundingToken}
-use Rattle.raises.specs.Raises.{assigns, value, setsFrom, is_zero, defaults, genesisValues, startsAtZero, raise, raises}
-use Rattle.reserve_tokens.specs.ReserveTokens.{credited, guardToken, guardTokens, only, debitToken, raiseToken, raiseTokens, reserveToken}
-use Rattle.guards.specs.Guards.{containsInflow, guardedField, guardedAmount, guardedBy, containsWrapping, loweredBy, lowers}
-use Rattle.guards.specs.Payouts.{payoutToken, payoutAmount}
-use Rattle.reserves.specs.Reserves.{reserveCovers, reserveBoundingPayout}
-use Rattle.matching.specs.Matching.{Cover, Reason, Marks, debitBackings, parameterBackings, backings, equals, bounds, takeBacking, takeReserve, byReserve, byBounding, notTaken, byEqual, answer, start}
-use Rattle.matching.specs.Matching.Cover.{equalDebit, equalParameter, boundingDebit, boundingParameter, reserve}
-use Rattle.matching.specs.Matching.Reason.{splitWithoutAmount, conflictAtEqual, amountTaken, conflictAtBounding, noReserve, reserveUsed}
+use Rattle.laws.specs.Lists.{any, all, filter, find, remove_first, position, numbered}
+use Rattle.laws.specs.Texts.{same_bytes, known}
+use Rattle.tags.specs.Tag.{State, Entry, Parameter, Guard, AddTo, SubtractFrom, ExpressionStatement, InAsset, Caller, Date, Member, Call, Checked, Wrapping, Eq, Ge, Sub, Mul, Div, composite, is_expression, is_statement, is_wrapper, is_assign}
+use Rattle.fields.specs.Field.{Field, Fields, fields, fields_to, front, nth, row, fields_from, size, sizes, placed, placed_from}
+use Rattle.fields.proofs.Writing.{write, word, name, type_name, integer, identifier}
+use Rattle.model.specs.Model.{entries, params, body, genesis, state_names}
+use Rattle.walking.specs.Walking.{peel, peel_first, walk, walk_parts, stmt_exprs, body_exprs, exprs, guards, ident, method, receiver, is_debit, is_payout, asset_amount_backer, is_asset_parameter, asset_params, debits, payouts}
+use Rattle.equality.specs.Equality.{strip, same_text, expr_eq, parts_eq}
+use Rattle.conditions.specs.Conditions.{split_and, split_each, split_first, negated, negated_each, negated_first, conditions_of, required_conditions, opposite, operator}
+use Rattle.bounds.specs.Bounds.{goes_left, wrapping_inside, bounded_by_backing, left_bounded}
+use Rattle.tokens.specs.Tokens.{single, differ, beside_in_asset, token_named, tokens_named, admitted_inflow_token, is_inflow, is_credit, is_funding}
+use Rattle.fundings.specs.FundingTokens.{funds, ledger_funding_tokens, funding_token}
+use Rattle.raises.specs.Raises.{assigns, value, sets_from, is_zero, defaults, genesis_values, starts_at_zero, raise, raises}
+use Rattle.reserve_tokens.specs.ReserveTokens.{credited, guard_token, guard_tokens, only, debit_token, raise_token, raise_tokens, reserve_token}
+use Rattle.guards.specs.Guards.{contains_inflow, guarded_field, guarded_amount, guarded_by, contains_wrapping, lowered_by, lowers}
+use Rattle.guards.specs.Payouts.{payout_token, payout_amount}
+use Rattle.reserves.specs.Reserves.{reserve_covers, reserve_bounding_payout}
+use Rattle.matching.specs.Matching.{Cover, Reason, Marks, debit_backings, parameter_backings, backings, equals, bounds, take_backing, take_reserve, by_reserve, by_bounding, not_taken, by_equal, answer, start}
+use Rattle.matching.specs.Matching.Cover.{equal_debit, equal_parameter, bounding_debit, bounding_parameter, reserve}
+use Rattle.matching.specs.Matching.Reason.{split_without_amount, conflict_at_equal, amount_taken, conflict_at_bounding, no_reserve, reserve_used}
 use Rattle.matching.specs.Matching.Answer.{cover, rejection}
 
 -- what an answer is: a kind of cover with its index, or 0 with the number of the reason
-abbrev shownCover : Cover → ℕ × ℕ
-shownCover (equalDebit i) = (1, i)
-shownCover (equalParameter i) = (2, i)
-shownCover (boundingDebit i) = (3, i)
-shownCover (boundingParameter i) = (4, i)
-shownCover (reserve i) = (5, i)
+abbrev shown_cover : Cover → ℕ × ℕ
+shown_cover (equal_debit i) = (1, i)
+shown_cover (equal_parameter i) = (2, i)
+shown_cover (bounding_debit i) = (3, i)
+shown_cover (bounding_parameter i) = (4, i)
+shown_cover (reserve i) = (5, i)
 
-abbrev shownReason : Reason → ℕ × ℕ
-shownReason splitWithoutAmount = (0, 1)
-shownReason conflictAtEqual = (0, 2)
-shownReason amountTaken = (0, 3)
-shownReason conflictAtBounding = (0, 4)
-shownReason noReserve = (0, 5)
-shownReason reserveUsed = (0, 6)
+abbrev shown_reason : Reason → ℕ × ℕ
+shown_reason split_without_amount = (0, 1)
+shown_reason conflict_at_equal = (0, 2)
+shown_reason amount_taken = (0, 3)
+shown_reason conflict_at_bounding = (0, 4)
+shown_reason no_reserve = (0, 5)
+shown_reason reserve_used = (0, 6)
 
 -- one payout after the other, up to the first rejection
 abbrev run : Fields → Field → Marks → List Field → List (ℕ × ℕ)
 run model entry s [] = []
 run model entry s (p ∷ ps) =
     elim (answer model entry s p) [
-      | cover c after ↦ shownCover c ∷ run model entry after ps
-      | rejection r ↦ shownReason r ∷ []
+      | cover c after ↦ shown_cover c ∷ run model entry after ps
+      | rejection r ↦ shown_reason r ∷ []
     ]
 
 -- the last entry of a model, with what stands before it
 answers : List (List ℕ × List ℕ) → List (List (ℕ × ℕ))
-unfolding any all filter find removeFirst position numbered sameBytes known fields fieldsTo nth composite size sizes placed placedFrom row fieldsFrom flat_map isExpression isStatement isWrapper isAssign entries params body genesis stateNames peel peelFirst walk walkParts stmtExprs bodyExprs exprs guards ident method receiver isDebit isPayout assetAmountBacker isAssetParameter assetParams debits payouts strip sameText exprEq partsEq splitAnd splitEach splitFirst negated negatedEach negatedFirst conditionsOf requiredConditions opposite operator goesLeft wrappingInside boundedByBacking leftBounded single differ besideInAsset tokenNamed tokensNamed admittedInflowToken isInflow isCredit isFunding funds ledgerFundingTokens fundingToken containsInflow guardedField guardedAmount guardedBy assigns value containsWrapping setsFrom loweredBy lowers is_zero defaults genesisValues startsAtZero raise raises credited guardToken guardTokens only debitToken raiseToken raiseTokens reserveToken reserveCovers reserveBoundingPayout debitBackings parameterBackings backings payoutToken payoutAmount equals bounds takeBacking takeReserve byReserve byBounding notTaken byEqual answer start
+unfolding any all filter find remove_first position numbered same_bytes known fields fields_to nth composite size sizes placed placed_from row fields_from flat_map is_expression is_statement is_wrapper is_assign entries params body genesis state_names peel peel_first walk walk_parts stmt_exprs body_exprs exprs guards ident method receiver is_debit is_payout asset_amount_backer is_asset_parameter asset_params debits payouts strip same_text expr_eq parts_eq split_and split_each split_first negated negated_each negated_first conditions_of required_conditions opposite operator goes_left wrapping_inside bounded_by_backing left_bounded single differ beside_in_asset token_named tokens_named admitted_inflow_token is_inflow is_credit is_funding funds ledger_funding_tokens funding_token contains_inflow guarded_field guarded_amount guarded_by assigns value contains_wrapping sets_from lowered_by lowers is_zero defaults genesis_values starts_at_zero raise raises credited guard_token guard_tokens only debit_token raise_token raise_tokens reserve_token reserve_covers reserve_bounding_payout debit_backings parameter_backings backings payout_token payout_amount equals bounds take_backing take_reserve by_reserve by_bounding not_taken by_equal answer start
 answers ms = map (λ m. run (fields (m.0 ++ m.1)) (front m.1) (start (fields (m.0 ++ m.1)) (front m.1)) (payouts (front m.1))) ms
 
 -- the parts of examples
@@ -60,7 +60,7 @@ abbrev entry : List ℕ → List ℕ
 entry c = write Entry (name "f" ++ c)
 
 abbrev asset : String → List ℕ
-asset p = write Parameter (name p ++ typeName "Q_Asset")
+asset p = write Parameter (name p ++ type_name "Q_Asset")
 
 abbrev amount : String → List ℕ
 amount p = write Member (identifier p ++ name "amount")
@@ -125,7 +125,7 @@ double = write Mul (amount "b" ++ integer "2")
 
 abbrev held : List ℕ
 held =
-    write State (name "r" ++ (typeName "int" ++ integer "0"))
+    write State (name "r" ++ (type_name "int" ++ integer "0"))
     ++ entry (asset "a" ++ (holds "T" ++ write AddTo (identifier "r" ++ amount "a")))
 
 abbrev lowering : List ℕ → List ℕ

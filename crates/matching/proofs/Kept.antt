@@ -4,19 +4,19 @@ use Rattle.std.proofs.Common.{ℕ, zero, suc, ◌+◌, ◌-◌, ◌≤◌, ◌<�
 use mathlib.Core.Option.{none, some}
 use lib.ListN.{length-replicate, get_or-replicate, get_or-eq_default}
 use lib.Seq.{set_out}
-use Rattle.laws.specs.Numbers.{chosenBy, firstFrom, downFrom}
-use Rattle.laws.specs.Lists.{any, find, removeFirst}
+use Rattle.laws.specs.Numbers.{chosen_by, first_from, down_from}
+use Rattle.laws.specs.Lists.{any, find, remove_first}
 use Rattle.laws.proofs.Truths.{and_left}
-use Rattle.laws.proofs.Chosen.{chosenAt, Cleared, first-true, remove-chosen, taken-chosen, cleared-mark, downFrom-same, all-chosen, none-chosen}
+use Rattle.laws.proofs.Chosen.{chosen_at, Cleared, first-true, remove-chosen, taken-chosen, cleared-mark, down_from-same, all-chosen, none-chosen}
 use Rattle.fields.specs.Field.{Field, Fields, fields}
 use Rattle.entries.specs.declared.entry.Entry.{Entry}
-use Rattle.backings.specs.Marked.{markAt, freeAt, takenAt, usedAt, allFree, without, withUsed}
+use Rattle.backings.specs.Marked.{mark_at, free_at, taken_at, used_at, all_free, without, with_used}
 use Rattle.entries.specs.Entered.{Entered}
-use Rattle.backings.specs.Tables.{firstFree}
+use Rattle.backings.specs.Tables.{first_free}
 use Rattle.backings.specs.declared.marks.Marks.{Marks as Coded}
 use Rattle.matching.specs.Matching.{Backing, Marks, backings, start}
-use Rattle.matching.specs.Standing.{amounts, marksOf, Stands, backingsOf, backingAt}
-use Rattle.matching.proofs.Backed.{noBacking, backings-many, backing-is}
+use Rattle.matching.specs.Standing.{amounts, marks_of, Stands, backings_of, backing_at}
+use Rattle.matching.proofs.Backed.{no_backing, backings-many, backing-is}
 use Rattle.laws.proofs.Lists.{any-map}
 use Rattle.matching.proofs.Found.{first-free}
 
@@ -28,8 +28,8 @@ without_is : (m : Coded) (i : ℕ) → i < 64 → without m i ≡ cleared m i
 unfolding without
 without_is m i h = rw (lt-ltb i 64 h)
 
-cleared-free : (m : Coded) (i : ℕ) → freeAt m i ≡ true → i < 64 → Cleared (freeAt m) (freeAt (cleared m i)) i
-unfolding freeAt markAt
+cleared-free : (m : Coded) (i : ℕ) → free_at m i ≡ true → i < 64 → Cleared (free_at m) (free_at (cleared m i)) i
+unfolding free_at mark_at
 cleared-free m i e h = record {
   was = e;
   gone = rw (lt-ltb i 64 h) (cleared-mark m.free i);
@@ -37,39 +37,39 @@ cleared-free m i e h = record {
 }
 
 module _ (file : List ℕ) (en : Entry) (t : Entered file en) (m : Coded) (s : Marks)
-    (v : Stands (backingsOf file en.place) m s) where
+    (v : Stands (backings_of file en.place) m s) where
   -- a backing is taken, the first free one that passes the test
   module _ (test : Field → Bool) (tests : Backing → Bool) (same : (b : Backing) → tests b ≡ test b.amount)
-      (i : ℕ) (f : i ≡ firstFree file en m test) (h : i < en.total) where
-    first : i ≡ firstFrom (chosenAt noBacking (freeAt m) tests (backingsOf file en.place)) 0 (length (backingsOf file en.place))
+      (i : ℕ) (f : i ≡ first_free file en m test) (h : i < en.total) where
+    first : i ≡ first_from (chosen_at no_backing (free_at m) tests (backings_of file en.place)) 0 (length (backings_of file en.place))
     first = f ∙ first-free file en t m test tests same
 
-    inside : i < length (backingsOf file en.place)
+    inside : i < length (backings_of file en.place)
     inside = omega (arith, backings-many file en t, h)
 
-    was_free : freeAt m i ≡ true
-    was_free = and_left (freeAt m i) (tests (get_or (backingsOf file en.place) i noBacking)) (first-true (chosenAt noBacking (freeAt m) tests (backingsOf file en.place)) (length (backingsOf file en.place)) i first inside)
+    was_free : free_at m i ≡ true
+    was_free = and_left (free_at m i) (tests (get_or (backings_of file en.place) i no_backing)) (first-true (chosen_at no_backing (free_at m) tests (backings_of file en.place)) (length (backings_of file en.place)) i first inside)
 
-    now-cleared : Cleared (freeAt m) (freeAt (cleared m i)) i
+    now-cleared : Cleared (free_at m) (free_at (cleared m i)) i
     now-cleared = cleared-free m i was_free (omega (arith, h, t.few))
 
     taken-same : (g : Field → Bool) →
-        g (backingAt file en i).amount || any g s.taken ≡ any g (amounts (chosenBy (takenAt (cleared m i)) (backingsOf file en.place)))
-    unfolding takenAt marksOf
+        g (backing_at file en i).amount || any g s.taken ≡ any g (amounts (chosen_by (taken_at (cleared m i)) (backings_of file en.place)))
+    unfolding taken_at marks_of
     taken-same g =
         rw (
           v.taken g,
-          any-map (λ b. b.amount) g (chosenBy (takenAt m) (backingsOf file en.place)),
-          any-map (λ b. b.amount) g (chosenBy (takenAt (cleared m i)) (backingsOf file en.place)),
-          taken-chosen noBacking (freeAt m) (freeAt (cleared m i)) (λ b. g b.amount) (backingsOf file en.place) i inside now-cleared,
+          any-map (λ b. b.amount) g (chosen_by (taken_at m) (backings_of file en.place)),
+          any-map (λ b. b.amount) g (chosen_by (taken_at (cleared m i)) (backings_of file en.place)),
+          taken-chosen no_backing (free_at m) (free_at (cleared m i)) (λ b. g b.amount) (backings_of file en.place) i inside now-cleared,
           backing-is file en t i h,
         )
 
-    pub backing-taken : Stands (backingsOf file en.place) (without m i)
-        (record { free = removeFirst tests s.free; taken = (backingAt file en i).amount ∷ s.taken; used = s.used })
-    unfolding any marksOf usedAt
+    pub backing-taken : Stands (backings_of file en.place) (without m i)
+        (record { free = remove_first tests s.free; taken = (backing_at file en i).amount ∷ s.taken; used = s.used })
+    unfolding any marks_of used_at
     backing-taken = rw (without_is m i (omega (arith, h, t.few))) (record {
-      free = ap (removeFirst tests) v.free ∙ remove-chosen noBacking (freeAt m) (freeAt (cleared m i)) tests (backingsOf file en.place) i first inside now-cleared;
+      free = ap (remove_first tests) v.free ∙ remove-chosen no_backing (free_at m) (free_at (cleared m i)) tests (backings_of file en.place) i first inside now-cleared;
       taken = taken-same;
       used = v.used;
       room = v.room;
@@ -80,42 +80,42 @@ module _ (file : List ℕ) (en : Entry) (t : Entered file en) (m : Coded) (s : M
     abbrev longer : Coded
     longer = record { free = m.free; used = set m.used m.uses i; uses = m.uses + 1 }
 
-    longer-is : withUsed m i ≡ longer
-    unfolding withUsed
+    longer-is : with_used m i ≡ longer
+    unfolding with_used
     longer-is = rw (lt-ltb m.uses 64 h)
 
-    last-used : usedAt longer m.uses ≡ i
-    unfolding usedAt
+    last-used : used_at longer m.uses ≡ i
+    unfolding used_at
     last-used = rw (lt-ltb m.uses 64 h) (get_or-set_same m.used m.uses i 0 (omega (arith, v.room, h)))
 
-    earlier-used : (j : ℕ) → j < m.uses → usedAt longer j ≡ usedAt m j
-    unfolding usedAt
+    earlier-used : (j : ℕ) → j < m.uses → used_at longer j ≡ used_at m j
+    unfolding used_at
     earlier-used j l = rw (get_or-set_other m.used m.uses j i 0 (λ e. omega (arith, e, l)))
 
-    all-used : i ∷ s.used ≡ downFrom (usedAt longer) (m.uses + 1)
-    unfolding downFrom marksOf usedAt
-    all-used = rw (add-one, last-used, downFrom-same (usedAt longer) (usedAt m) m.uses earlier-used, v.used)
+    all-used : i ∷ s.used ≡ down_from (used_at longer) (m.uses + 1)
+    unfolding down_from marks_of used_at
+    all-used = rw (add-one, last-used, down_from-same (used_at longer) (used_at m) m.uses earlier-used, v.used)
 
-    pub reserve-taken : Stands (backingsOf file en.place) (withUsed m i) (record { free = s.free; taken = s.taken; used = i ∷ s.used })
-    unfolding marksOf freeAt takenAt
+    pub reserve-taken : Stands (backings_of file en.place) (with_used m i) (record { free = s.free; taken = s.taken; used = i ∷ s.used })
+    unfolding marks_of free_at taken_at
     reserve-taken = rw longer-is (record { free = v.free; taken = v.taken; used = all-used; room = length-set m.used m.uses i ∙ v.room })
 
 -- At the start every backing is free
 
-free-first : (i : ℕ) → i < 64 → freeAt allFree i ≡ true
-unfolding freeAt markAt allFree
+free-first : (i : ℕ) → i < 64 → free_at all_free i ≡ true
+unfolding free_at mark_at all_free
 free-first i h = rw (lt-ltb i 64 h) (get_or-replicate 64 i true false h)
 
 module _ (model : Fields) (entry : Field) (few : length (backings model entry) ≤ 64) where
-  all-free : chosenBy (freeAt allFree) (backings model entry) ≡ backings model entry
-  all-free = all-chosen (freeAt allFree) (backings model entry) (λ i h. free-first i (omega arith))
+  all-free : chosen_by (free_at all_free) (backings model entry) ≡ backings model entry
+  all-free = all-chosen (free_at all_free) (backings model entry) (λ i h. free-first i (omega arith))
 
-  none-taken : chosenBy (takenAt allFree) (backings model entry) ≡ []
-  unfolding takenAt
-  none-taken = none-chosen (takenAt allFree) (backings model entry) (λ i h. rw (free-first i (omega arith)))
+  none-taken : chosen_by (taken_at all_free) (backings model entry) ≡ []
+  unfolding taken_at
+  none-taken = none-chosen (taken_at all_free) (backings model entry) (λ i h. rw (free-first i (omega arith)))
 
-  pub start-stands : Stands (backings model entry) allFree (start model entry)
-  unfolding start marksOf allFree downFrom
+  pub start-stands : Stands (backings model entry) all_free (start model entry)
+  unfolding start marks_of all_free down_from
   start-stands = record {
     free = sym all-free;
     taken = λ test. ap (λ l. any test (amounts l)) (sym none-taken);

@@ -1,80 +1,80 @@
 -- The definition's steps, one at a time: a search that finds something decides, and one that finds nothing leaves the rest.
 use Rattle.std.proofs.Common.{◌≡◌, Bool, true, false, List, ◌∷◌, ℕ, eqb}
 use mathlib.Core.Option.{none, some}
-use Rattle.laws.specs.Lists.{any, find, removeFirst, position}
-use Rattle.laws.specs.Texts.{sameBytes}
+use Rattle.laws.specs.Lists.{any, find, remove_first, position}
+use Rattle.laws.specs.Texts.{same_bytes}
 use Rattle.fields.specs.Field.{Field, Fields}
-use Rattle.model.specs.Model.{stateNames}
+use Rattle.model.specs.Model.{state_names}
 use Rattle.walking.specs.Walking.{peel, present}
 use Rattle.tokens.specs.Tokens.{differ}
-use Rattle.guards.specs.Payouts.{payoutToken, payoutAmount}
-use Rattle.reserves.specs.Reserves.{reserveBoundingPayout}
-use Rattle.backings.specs.Tables.{equalTo}
-use Rattle.matching.specs.Matching.{Backing, Cover, Reason, Marks, equals, bounds, equalCover, boundingCover, takeBacking, takeReserve, byReserve, byBounding, notTaken, byEqual, answer}
+use Rattle.guards.specs.Payouts.{payout_token, payout_amount}
+use Rattle.reserves.specs.Reserves.{reserve_bounding_payout}
+use Rattle.backings.specs.Tables.{equal_to}
+use Rattle.matching.specs.Matching.{Backing, Cover, Reason, Marks, equals, bounds, equal_cover, bounding_cover, take_backing, take_reserve, by_reserve, by_bounding, not_taken, by_equal, answer}
 use Rattle.matching.specs.Matching.Cover.{reserve}
-use Rattle.matching.specs.Matching.Reason.{splitWithoutAmount, conflictAtEqual, amountTaken, conflictAtBounding, noReserve, reserveUsed}
+use Rattle.matching.specs.Matching.Reason.{split_without_amount, conflict_at_equal, amount_taken, conflict_at_bounding, no_reserve, reserve_used}
 use Rattle.matching.specs.Matching.Answer.{cover, rejection}
 
 module _ (model : Fields) (entry : Field) (s : Marks) (p : Field) where
-  pub split_step : present (payoutAmount p) ≡ false → answer model entry s p ≡ rejection splitWithoutAmount
+  pub split_step : present (payout_amount p) ≡ false → answer model entry s p ≡ rejection split_without_amount
   unfolding answer
   split_step e = rw e
 
-  pub answer-step : present (payoutAmount p) ≡ true → answer model entry s p ≡ byEqual model entry s p
+  pub answer-step : present (payout_amount p) ≡ true → answer model entry s p ≡ by_equal model entry s p
   unfolding answer
   answer-step e = rw e
 
   pub equal-step : (b : Backing) → find (equals p) s.free ≡ some b →
-      byEqual model entry s p ≡ takeBacking s p (equals p) b (equalCover b) conflictAtEqual
-  unfolding byEqual
+      by_equal model entry s p ≡ take_backing s p (equals p) b (equal_cover b) conflict_at_equal
+  unfolding by_equal
   equal-step b e = cc
 
-  pub no-equal-step : find (equals p) s.free ≡ none → byEqual model entry s p ≡ notTaken model entry s p
-  unfolding byEqual
+  pub no-equal-step : find (equals p) s.free ≡ none → by_equal model entry s p ≡ not_taken model entry s p
+  unfolding by_equal
   no-equal-step e = cc
 
-  pub taken_step : any (equalTo (payoutAmount p)) s.taken ≡ true → notTaken model entry s p ≡ rejection amountTaken
-  unfolding notTaken equalTo
+  pub taken_step : any (equal_to (payout_amount p)) s.taken ≡ true → not_taken model entry s p ≡ rejection amount_taken
+  unfolding not_taken equal_to
   taken_step e = rw e
 
-  pub untaken-step : any (equalTo (payoutAmount p)) s.taken ≡ false → notTaken model entry s p ≡ byBounding model entry s p
-  unfolding notTaken equalTo
+  pub untaken-step : any (equal_to (payout_amount p)) s.taken ≡ false → not_taken model entry s p ≡ by_bounding model entry s p
+  unfolding not_taken equal_to
   untaken-step e = rw e
 
   pub bounding-step : (b : Backing) → find (bounds p) s.free ≡ some b →
-      byBounding model entry s p ≡ takeBacking s p (bounds p) b (boundingCover b) conflictAtBounding
-  unfolding byBounding
+      by_bounding model entry s p ≡ take_backing s p (bounds p) b (bounding_cover b) conflict_at_bounding
+  unfolding by_bounding
   bounding-step b e = cc
 
-  pub no-bounding-step : find (bounds p) s.free ≡ none → byBounding model entry s p ≡ byReserve model entry s p
-  unfolding byBounding
+  pub no-bounding-step : find (bounds p) s.free ≡ none → by_bounding model entry s p ≡ by_reserve model entry s p
+  unfolding by_bounding
   no-bounding-step e = cc
 
-  pub reserve-step : (r : List ℕ) → reserveBoundingPayout model entry (peel (payoutAmount p)) (payoutToken p) ≡ some r →
-      byReserve model entry s p ≡ takeReserve s (position (sameBytes r) (stateNames model))
-  unfolding byReserve
+  pub reserve-step : (r : List ℕ) → reserve_bounding_payout model entry (peel (payout_amount p)) (payout_token p) ≡ some r →
+      by_reserve model entry s p ≡ take_reserve s (position (same_bytes r) (state_names model))
+  unfolding by_reserve
   reserve-step r e = cc
 
-  pub no-reserve-step : reserveBoundingPayout model entry (peel (payoutAmount p)) (payoutToken p) ≡ none → byReserve model entry s p ≡ rejection noReserve
-  unfolding byReserve
+  pub no-reserve-step : reserve_bounding_payout model entry (peel (payout_amount p)) (payout_token p) ≡ none → by_reserve model entry s p ≡ rejection no_reserve
+  unfolding by_reserve
   no-reserve-step e = cc
 
 module _ (s : Marks) (p : Field) (test : Backing → Bool) (b : Backing) (c : Cover) (r : Reason) where
-  pub conflict-step : differ b.token (payoutToken p) ≡ true → takeBacking s p test b c r ≡ rejection r
-  unfolding takeBacking
+  pub conflict-step : differ b.token (payout_token p) ≡ true → take_backing s p test b c r ≡ rejection r
+  unfolding take_backing
   conflict-step e = rw e
 
-  pub take_step : differ b.token (payoutToken p) ≡ false →
-      takeBacking s p test b c r ≡ cover c (record { free = removeFirst test s.free; taken = b.amount ∷ s.taken; used = s.used })
-  unfolding takeBacking
+  pub take_step : differ b.token (payout_token p) ≡ false →
+      take_backing s p test b c r ≡ cover c (record { free = remove_first test s.free; taken = b.amount ∷ s.taken; used = s.used })
+  unfolding take_backing
   take_step e = rw e
 
 module _ (s : Marks) (i : ℕ) where
-  pub used_step : any (eqb i) s.used ≡ true → takeReserve s i ≡ rejection reserveUsed
-  unfolding takeReserve
+  pub used_step : any (eqb i) s.used ≡ true → take_reserve s i ≡ rejection reserve_used
+  unfolding take_reserve
   used_step e = rw e
 
   pub unused-step : any (eqb i) s.used ≡ false →
-      takeReserve s i ≡ cover (reserve i) (record { free = s.free; taken = s.taken; used = i ∷ s.used })
-  unfolding takeReserve
+      take_reserve s i ≡ cover (reserve i) (record { free = s.free; taken = s.taken; used = i ∷ s.used })
+  unfolding take_reserve
   unused-step e = rw e

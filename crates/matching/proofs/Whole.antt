@@ -3,27 +3,27 @@
 use Rattle.std.proofs.Common.{ℕ, ◌+◌, ◌-◌, ◌≤◌, ◌<◌, ◌≡◌, refl, sym, ap, ◌∙◌, Bool, true, false, cond, List, Option, arith, ltb-true, ltb-false, eqb, ltb}
 use mathlib.Core.Option.{none, some}
 use Rattle.laws.specs.Lists.{any, find, position}
-use Rattle.laws.specs.Numbers.{firstFrom}
-use Rattle.laws.specs.Texts.{sameBytes}
+use Rattle.laws.specs.Numbers.{first_from}
+use Rattle.laws.specs.Texts.{same_bytes}
 use Rattle.fields.specs.Field.{Field, Fields, fields, front}
-use Rattle.model.specs.Model.{stateNames}
+use Rattle.model.specs.Model.{state_names}
 use Rattle.walking.specs.Walking.{peel, present}
 use Rattle.tokens.specs.Tokens.{differ}
-use Rattle.guards.specs.Payouts.{payoutToken, payoutAmount}
-use Rattle.reserves.specs.Reserves.{reserveBoundingPayout}
+use Rattle.guards.specs.Payouts.{payout_token, payout_amount}
+use Rattle.reserves.specs.Reserves.{reserve_bounding_payout}
 use Rattle.entries.specs.declared.entry.Entry.{Entry}
-use Rattle.backings.specs.Marked.{without, withUsed}
+use Rattle.backings.specs.Marked.{without, with_used}
 use Rattle.entries.specs.Entered.{Entered, entry_of}
-use Rattle.backings.specs.Tables.{equalTo, boundedBy, firstFree}
+use Rattle.backings.specs.Tables.{equal_to, bounded_by, first_free}
 use Rattle.backings.specs.declared.marks.Marks.{Marks as Coded}
-use Rattle.matching.specs.Matching.{Backing, Marks, equals, bounds, equalCover, boundingCover, takeBacking, takeReserve, byReserve, byBounding, notTaken, byEqual, answer}
+use Rattle.matching.specs.Matching.{Backing, Marks, equals, bounds, equal_cover, bounding_cover, take_backing, take_reserve, by_reserve, by_bounding, not_taken, by_equal, answer}
 use Rattle.matching.specs.Matching as matching
-use Rattle.matching.specs.Matching.Cover.{equalDebit, equalParameter, boundingDebit, boundingParameter, reserve}
-use Rattle.matching.specs.Matching.Reason.{splitWithoutAmount, conflictAtEqual, amountTaken, conflictAtBounding, noReserve, reserveUsed}
+use Rattle.matching.specs.Matching.Cover.{equal_debit, equal_parameter, bounding_debit, bounding_parameter, reserve}
+use Rattle.matching.specs.Matching.Reason.{split_without_amount, conflict_at_equal, amount_taken, conflict_at_bounding, no_reserve, reserve_used}
 use Rattle.matching.specs.Matching.Answer.{cover, rejection}
-use Rattle.matching.specs.Standing.{marksOf, Stands, backingsOf, backingAt}
-use Rattle.matching.specs.Prepared.{Ready, payoutAt}
-use Rattle.matching.specs.Coded.{coverOf, reasonOf, answer_of, codedCover, codedReason, coded, afterCover, afterAnswer, atPayout, equalAt, boundingAt, Answers, AnswersFor}
+use Rattle.matching.specs.Standing.{marks_of, Stands, backings_of, backing_at}
+use Rattle.matching.specs.Prepared.{Ready, payout_at}
+use Rattle.matching.specs.Coded.{cover_of, reason_of, answer_of, coded_cover, coded_reason, coded, after_cover, after_answer, at_payout, equal_at, bounding_at, Answers, AnswersFor}
 use Rattle.matching.specs.declared.answer.Cover.TheVariants.{EqualDebit, EqualParameter, BoundingDebit, BoundingParameter, Reserve}
 use Rattle.matching.specs.declared.answer.Answer.{Answer}
 use Rattle.matching.specs.declared.answer.Answer.TheVariants.{Covered, Rejected}
@@ -40,29 +40,29 @@ module _ (m : Coded) (count i : ℕ) where
   behind : count ≤ i → count + (i - count) ≡ i
   behind h = omega arith
 
-  equal-takes : afterCover m count (equalAt count i) ≡ without m i
-  unfolding afterCover equalAt
+  equal-takes : after_cover m count (equal_at count i) ≡ without m i
+  unfolding after_cover equal_at
   equal-takes = go (ltb i count) refl
     where
-      go : (b : Bool) → ltb i count ≡ b → afterCover m count (equalAt count i) ≡ without m i
+      go : (b : Bool) → ltb i count ≡ b → after_cover m count (equal_at count i) ≡ without m i
       go true e = rw e
       go false e = rw (e, behind (ltb-false i count e))
 
-  bounding-takes : afterCover m count (boundingAt count i) ≡ without m i
-  unfolding afterCover boundingAt
+  bounding-takes : after_cover m count (bounding_at count i) ≡ without m i
+  unfolding after_cover bounding_at
   bounding-takes = go (ltb i count) refl
     where
-      go : (b : Bool) → ltb i count ≡ b → afterCover m count (boundingAt count i) ≡ without m i
+      go : (b : Bool) → ltb i count ≡ b → after_cover m count (bounding_at count i) ≡ without m i
       go true e = rw e
       go false e = rw (e, behind (ltb-false i count e))
 
 -- the marks after a cover stand for those of the definition
 abbrev Good : List Backing → Coded → ℕ → matching.Answer → Type 0
-Good bs m count (cover c after) = Stands bs (afterCover m count (codedCover c)) after
+Good bs m count (cover c after) = Stands bs (after_cover m count (coded_cover c)) after
 Good bs m count (rejection r) = Unit {0}
 
 module _ (file : List ℕ) (en : Entry) (t : Entered file en) (m : Coded) (room : m.uses < 64)
-    (s : Marks) (v : Stands (backingsOf file en.place) m s) (p : Field) where
+    (s : Marks) (v : Stands (backings_of file en.place) m s) (p : Field) where
   abbrev model : Fields
   model = fields file
 
@@ -70,10 +70,10 @@ module _ (file : List ℕ) (en : Entry) (t : Entered file en) (m : Coded) (room 
   entry = entry_of file en.place
 
   abbrev bs : List Backing
-  bs = backingsOf file en.place
+  bs = backings_of file en.place
 
   abbrev marks : Marks
-  marks = marksOf (backingsOf file en.place) m
+  marks = marks_of (backings_of file en.place) m
 
   -- an answer with the pass's marks, and one with the marks that the code's stand for: the same, with good marks
   record Fits (a b : matching.Answer) : Type 0 where
@@ -82,16 +82,16 @@ module _ (file : List ℕ) (en : Entry) (t : Entered file en) (m : Coded) (room 
 
   -- a backing is taken
   module _ (test : Field → Bool) (tests : Backing → Bool) (agree : (b : Backing) → tests b ≡ test b.amount) (i : ℕ)
-      (f : i ≡ firstFree file en m test) (h : i < en.total)
-      (c : matching.Cover) (k : afterCover m en.debits (codedCover c) ≡ without m i) (r : matching.Reason) where
+      (f : i ≡ first_free file en m test) (h : i < en.total)
+      (c : matching.Cover) (k : after_cover m en.debits (coded_cover c) ≡ without m i) (r : matching.Reason) where
     abbrev taken : Backing
-    taken = backingAt file en i
+    taken = backing_at file en i
 
-    fits-take : Fits (takeBacking s p tests taken c r) (takeBacking marks p tests taken c r)
+    fits-take : Fits (take_backing s p tests taken c r) (take_backing marks p tests taken c r)
     unfolding coded
-    fits-take = go (differ taken.token (payoutToken p)) refl
+    fits-take = go (differ taken.token (payout_token p)) refl
       where
-        go : (d : Bool) → differ taken.token (payoutToken p) ≡ d → Fits (takeBacking s p tests taken c r) (takeBacking marks p tests taken c r)
+        go : (d : Bool) → differ taken.token (payout_token p) ≡ d → Fits (take_backing s p tests taken c r) (take_backing marks p tests taken c r)
         go true e =
             rw (conflict-step s p tests taken c r e, conflict-step marks p tests taken c r e) (record { same = refl; good = tt })
         go false e =
@@ -99,102 +99,102 @@ module _ (file : List ℕ) (en : Entry) (t : Entered file en) (m : Coded) (room 
             (record { same = refl; good = rw k (backing-taken file en t m s v test tests agree i f h) })
 
   -- a reserve is used
-  fits-use : (i : ℕ) → Fits (takeReserve s i) (takeReserve marks i)
-  unfolding coded marksOf afterCover
+  fits-use : (i : ℕ) → Fits (take_reserve s i) (take_reserve marks i)
+  unfolding coded marks_of after_cover
   fits-use i = go (any (eqb i) s.used) refl
     where
-      go : (d : Bool) → any (eqb i) s.used ≡ d → Fits (takeReserve s i) (takeReserve marks i)
+      go : (d : Bool) → any (eqb i) s.used ≡ d → Fits (take_reserve s i) (take_reserve marks i)
       go true e = rw (used_step s i e, used_step marks i (rw v.used at e)) (record { same = refl; good = tt })
       go false e =
           rw (unused-step s i e, unused-step marks i (rw v.used at e))
           (record { same = refl; good = reserve-taken file en t m s v i room })
 
-  fits-reserve : Fits (byReserve model entry s p) (byReserve model entry marks p)
+  fits-reserve : Fits (by_reserve model entry s p) (by_reserve model entry marks p)
   unfolding coded
-  fits-reserve = go (reserveBoundingPayout model entry (peel (payoutAmount p)) (payoutToken p)) refl
+  fits-reserve = go (reserve_bounding_payout model entry (peel (payout_amount p)) (payout_token p)) refl
     where
-      go : (o : Option (List ℕ)) → reserveBoundingPayout model entry (peel (payoutAmount p)) (payoutToken p) ≡ o → Fits (byReserve model entry s p) (byReserve model entry marks p)
+      go : (o : Option (List ℕ)) → reserve_bounding_payout model entry (peel (payout_amount p)) (payout_token p) ≡ o → Fits (by_reserve model entry s p) (by_reserve model entry marks p)
       go none e = rw (no-reserve-step model entry s p e, no-reserve-step model entry marks p e) (record { same = refl; good = tt })
-      go (some r) e = rw (reserve-step model entry s p r e, reserve-step model entry marks p r e) (fits-use (position (sameBytes r) (stateNames model)))
+      go (some r) e = rw (reserve-step model entry s p r e, reserve-step model entry marks p r e) (fits-use (position (same_bytes r) (state_names model)))
 
   -- the first free backing that bounds the amount, or the rest
   abbrev bounding : ℕ
-  bounding = firstFree file en m (boundedBy (payoutAmount p))
+  bounding = first_free file en m (bounded_by (payout_amount p))
 
-  fits-bounding : Fits (byBounding model entry s p) (byBounding model entry marks p)
-  unfolding marksOf
+  fits-bounding : Fits (by_bounding model entry s p) (by_bounding model entry marks p)
+  unfolding marks_of
   fits-bounding = go (ltb bounding en.total) refl
     where
-      go : (d : Bool) → ltb bounding en.total ≡ d → Fits (byBounding model entry s p) (byBounding model entry marks p)
+      go : (d : Bool) → ltb bounding en.total ≡ d → Fits (by_bounding model entry s p) (by_bounding model entry marks p)
       go true e =
           let h = ltb-true bounding en.total e in
-          let z = free-some file en t m (boundedBy (payoutAmount p)) (bounds p) (bounds-amount p) bounding refl h in
+          let z = free-some file en t m (bounded_by (payout_amount p)) (bounds p) (bounds-amount p) bounding refl h in
           rw (
-            bounding-step model entry s p (backingAt file en bounding) (ap (find (bounds p)) v.free ∙ z),
-            bounding-step model entry marks p (backingAt file en bounding) z,
-          ) (fits-take (boundedBy (payoutAmount p)) (bounds p) (bounds-amount p) bounding refl h (boundingCover (backingAt file en bounding))
-          (ap (afterCover m en.debits) (bounding-coded file en bounding) ∙ bounding-takes m en.debits bounding) conflictAtBounding)
+            bounding-step model entry s p (backing_at file en bounding) (ap (find (bounds p)) v.free ∙ z),
+            bounding-step model entry marks p (backing_at file en bounding) z,
+          ) (fits-take (bounded_by (payout_amount p)) (bounds p) (bounds-amount p) bounding refl h (bounding_cover (backing_at file en bounding))
+          (ap (after_cover m en.debits) (bounding-coded file en bounding) ∙ bounding-takes m en.debits bounding) conflict_at_bounding)
       go false e =
-          let z = free-none file en t m (boundedBy (payoutAmount p)) (bounds p) (bounds-amount p) bounding refl (ltb-false bounding en.total e) in
+          let z = free-none file en t m (bounded_by (payout_amount p)) (bounds p) (bounds-amount p) bounding refl (ltb-false bounding en.total e) in
           rw (no-bounding-step model entry s p (ap (find (bounds p)) v.free ∙ z), no-bounding-step model entry marks p z) fits-reserve
 
   -- no taken backing may equal it
-  fits-taken : Fits (notTaken model entry s p) (notTaken model entry marks p)
+  fits-taken : Fits (not_taken model entry s p) (not_taken model entry marks p)
   unfolding coded
-  fits-taken = go (any (equalTo (payoutAmount p)) s.taken) refl
+  fits-taken = go (any (equal_to (payout_amount p)) s.taken) refl
     where
-      go : (d : Bool) → any (equalTo (payoutAmount p)) s.taken ≡ d → Fits (notTaken model entry s p) (notTaken model entry marks p)
+      go : (d : Bool) → any (equal_to (payout_amount p)) s.taken ≡ d → Fits (not_taken model entry s p) (not_taken model entry marks p)
       go true e =
-          rw (taken_step model entry s p e, taken_step model entry marks p (sym (v.taken (equalTo (payoutAmount p))) ∙ e))
+          rw (taken_step model entry s p e, taken_step model entry marks p (sym (v.taken (equal_to (payout_amount p))) ∙ e))
           (record { same = refl; good = tt })
       go false e =
-          rw (untaken-step model entry s p e, untaken-step model entry marks p (sym (v.taken (equalTo (payoutAmount p))) ∙ e))
+          rw (untaken-step model entry s p e, untaken-step model entry marks p (sym (v.taken (equal_to (payout_amount p))) ∙ e))
           fits-bounding
 
   -- the first free one that equals it
   abbrev equal : ℕ
-  equal = firstFree file en m (equalTo (payoutAmount p))
+  equal = first_free file en m (equal_to (payout_amount p))
 
-  fits-equal : Fits (byEqual model entry s p) (byEqual model entry marks p)
-  unfolding marksOf
+  fits-equal : Fits (by_equal model entry s p) (by_equal model entry marks p)
+  unfolding marks_of
   fits-equal = go (ltb equal en.total) refl
     where
-      go : (d : Bool) → ltb equal en.total ≡ d → Fits (byEqual model entry s p) (byEqual model entry marks p)
+      go : (d : Bool) → ltb equal en.total ≡ d → Fits (by_equal model entry s p) (by_equal model entry marks p)
       go true e =
           let h = ltb-true equal en.total e in
-          let z = free-some file en t m (equalTo (payoutAmount p)) (equals p) (equals-amount p) equal refl h in
+          let z = free-some file en t m (equal_to (payout_amount p)) (equals p) (equals-amount p) equal refl h in
           rw (
-            equal-step model entry s p (backingAt file en equal) (ap (find (equals p)) v.free ∙ z),
-            equal-step model entry marks p (backingAt file en equal) z,
-          ) (fits-take (equalTo (payoutAmount p)) (equals p) (equals-amount p) equal refl h (equalCover (backingAt file en equal))
-          (ap (afterCover m en.debits) (equal-coded file en equal) ∙ equal-takes m en.debits equal) conflictAtEqual)
+            equal-step model entry s p (backing_at file en equal) (ap (find (equals p)) v.free ∙ z),
+            equal-step model entry marks p (backing_at file en equal) z,
+          ) (fits-take (equal_to (payout_amount p)) (equals p) (equals-amount p) equal refl h (equal_cover (backing_at file en equal))
+          (ap (after_cover m en.debits) (equal-coded file en equal) ∙ equal-takes m en.debits equal) conflict_at_equal)
       go false e =
-          let z = free-none file en t m (equalTo (payoutAmount p)) (equals p) (equals-amount p) equal refl (ltb-false equal en.total e) in
+          let z = free-none file en t m (equal_to (payout_amount p)) (equals p) (equals-amount p) equal refl (ltb-false equal en.total e) in
           rw (no-equal-step model entry s p (ap (find (equals p)) v.free ∙ z), no-equal-step model entry marks p z) fits-taken
 
   fits-answer : Fits (answer model entry s p) (answer model entry marks p)
   unfolding coded
-  fits-answer = go (present (payoutAmount p)) refl
+  fits-answer = go (present (payout_amount p)) refl
     where
-      go : (d : Bool) → present (payoutAmount p) ≡ d → Fits (answer model entry s p) (answer model entry marks p)
+      go : (d : Bool) → present (payout_amount p) ≡ d → Fits (answer model entry s p) (answer model entry marks p)
       go true e = rw (answer-step model entry s p e, answer-step model entry marks p e) fits-equal
       go false e = rw (split_step model entry s p e, split_step model entry marks p e) (record { same = refl; good = tt })
 
   -- all of it
-  answers_by : (r : Answered) → r.answer ≡ coded (answer model entry marks p) → r.pass.marks ≡ afterAnswer m en.debits r.answer → Answers model entry bs s p r
-  unfolding coded afterAnswer
+  answers_by : (r : Answered) → r.answer ≡ coded (answer model entry marks p) → r.pass.marks ≡ after_answer m en.debits r.answer → Answers model entry bs s p r
+  unfolding coded after_answer
   answers_by r e f = go (answer model entry s p) refl fits-answer
     where
       go : (d : matching.Answer) → answer model entry s p ≡ d → Fits (answer model entry s p) (answer model entry marks p) → Answers model entry bs s p r
       go (cover c after) h w =
-          let a : r.answer ≡ Covered (codedCover c) = e ∙ sym w.same ∙ ap coded h in
+          let a : r.answer ≡ Covered (coded_cover c) = e ∙ sym w.same ∙ ap coded h in
           record {
             after = after;
             same = h ∙ rw (a, cover-back c);
             stands = rw (f, a) (rw h at w.good);
           }
       go (rejection x) h w =
-          let a : r.answer ≡ Rejected (codedReason x) = e ∙ sym w.same ∙ ap coded h in
+          let a : r.answer ≡ Rejected (coded_reason x) = e ∙ sym w.same ∙ ap coded h in
           record {
             after = s;
             same = h ∙ rw (a, reason-back x);
@@ -203,10 +203,10 @@ module _ (file : List ℕ) (en : Entry) (t : Entered file en) (m : Coded) (room 
 
 -- and for all marks that the code's stand for
 module _ (file : List ℕ) (en : Entry) (candidates facts : List ℕ) (pass : Pass) (k : ℕ) (w : Ready file en candidates facts pass k) (n : ℕ)
-    (a : Answer) (e : a ≡ coded (atPayout answer file en pass.marks k)) (after : Coded) (g : after ≡ afterAnswer pass.marks en.debits a) where
+    (a : Answer) (e : a ≡ coded (at_payout answer file en pass.marks k)) (after : Coded) (g : after ≡ after_answer pass.marks en.debits a) where
   pub answers-all : AnswersFor file en pass.marks k (record { answer = a; pass = record { marks = after; admitted = n } })
   answers-all before v =
-      answers_by file en w.prepared.entered pass.marks w.room before v (payoutAt file en k)
+      answers_by file en w.prepared.entered pass.marks w.room before v (payout_at file en k)
       (record { answer = a; pass = record { marks = after; admitted = n } }) e g
 
 -- one more reserve at most
@@ -219,16 +219,16 @@ module _ (m : Coded) (count : ℕ) where
       go true e = rw e (omega arith)
       go false e = rw e (omega arith)
 
-  with-uses : (i : ℕ) → (withUsed m i).uses ≤ m.uses + 1
-  unfolding withUsed
+  with-uses : (i : ℕ) → (with_used m i).uses ≤ m.uses + 1
+  unfolding with_used
   with-uses i = go (ltb m.uses 64) refl
     where
-      go : (b : Bool) → ltb m.uses 64 ≡ b → (withUsed m i).uses ≤ m.uses + 1
+      go : (b : Bool) → ltb m.uses 64 ≡ b → (with_used m i).uses ≤ m.uses + 1
       go true e = rw e (omega arith)
       go false e = rw e (omega arith)
 
-  uses-after : (a : Answer) → (afterAnswer m count a).uses ≤ m.uses + 1
-  unfolding afterAnswer afterCover
+  uses-after : (a : Answer) → (after_answer m count a).uses ≤ m.uses + 1
+  unfolding after_answer after_cover
   uses-after (Covered (EqualDebit i)) = without-uses i
   uses-after (Covered (EqualParameter i)) = without-uses (count + i)
   uses-after (Covered (BoundingDebit i)) = without-uses i
@@ -236,5 +236,5 @@ module _ (m : Coded) (count : ℕ) where
   uses-after (Covered (Reserve i)) = with-uses i
   uses-after (Rejected r) = omega arith
 
-  pub uses-few : (a : Answer) (r : Coded) → r ≡ afterAnswer m count a → r.uses ≤ m.uses + 1
+  pub uses-few : (a : Answer) (r : Coded) → r ≡ after_answer m count a → r.uses ≤ m.uses + 1
   uses-few a r e = rw e (uses-after a)

@@ -1,19 +1,19 @@
 -- The code's covers, reasons and answers, case by case.
 use Rattle.std.specs.Prelude.{ℕ, ◌+◌, ◌-◌, ◌≡◌, cond, List, eqb, ltb}
-use Rattle.laws.specs.Numbers.{downFrom}
+use Rattle.laws.specs.Numbers.{down_from}
 use Rattle.laws.specs.Lists.{any}
 use Rattle.fields.specs.Field.{Field, Fields, fields}
 use Rattle.entries.specs.Entered.{entry_of}
 use Rattle.entries.specs.declared.entry.Entry.{Entry}
-use Rattle.backings.specs.Marked.{usedAt, without, withUsed}
+use Rattle.backings.specs.Marked.{used_at, without, with_used}
 use Rattle.backings.specs.declared.marks.Marks.{Marks as Coded}
 use Rattle.matching.specs.Matching.{Backing, Marks, answer}
 use Rattle.matching.specs.Matching as matching
-use Rattle.matching.specs.Matching.Cover.{equalDebit, equalParameter, boundingDebit, boundingParameter, reserve}
-use Rattle.matching.specs.Matching.Reason.{splitWithoutAmount, conflictAtEqual, amountTaken, conflictAtBounding, noReserve, reserveUsed}
+use Rattle.matching.specs.Matching.Cover.{equal_debit, equal_parameter, bounding_debit, bounding_parameter, reserve}
+use Rattle.matching.specs.Matching.Reason.{split_without_amount, conflict_at_equal, amount_taken, conflict_at_bounding, no_reserve, reserve_used}
 use Rattle.matching.specs.Matching.Answer.{cover, rejection}
-use Rattle.matching.specs.Standing.{backingsOf, marksOf, Stands}
-use Rattle.matching.specs.Prepared.{payoutAt}
+use Rattle.matching.specs.Standing.{backings_of, marks_of, Stands}
+use Rattle.matching.specs.Prepared.{payout_at}
 use Rattle.matching.specs.declared.answer.Cover.{Cover}
 use Rattle.matching.specs.declared.answer.Cover.TheVariants.{EqualDebit, EqualParameter, BoundingDebit, BoundingParameter, Reserve}
 use Rattle.matching.specs.declared.answer.Reason.{Reason}
@@ -23,75 +23,75 @@ use Rattle.matching.specs.declared.answer.Answer.TheVariants.{Covered, Rejected}
 use Rattle.matching.specs.declared.answer.Answered.{Answered}
 
 -- the cover that one of the code is
-abbrev pub coverOf : Cover → matching.Cover
-coverOf (EqualDebit i) = equalDebit i
-coverOf (EqualParameter i) = equalParameter i
-coverOf (BoundingDebit i) = boundingDebit i
-coverOf (BoundingParameter i) = boundingParameter i
-coverOf (Reserve i) = reserve i
+abbrev pub cover_of : Cover → matching.Cover
+cover_of (EqualDebit i) = equal_debit i
+cover_of (EqualParameter i) = equal_parameter i
+cover_of (BoundingDebit i) = bounding_debit i
+cover_of (BoundingParameter i) = bounding_parameter i
+cover_of (Reserve i) = reserve i
 
 -- the reason
-abbrev pub reasonOf : Reason → matching.Reason
-reasonOf SplitWithoutAmount = splitWithoutAmount
-reasonOf ConflictAtEqual = conflictAtEqual
-reasonOf AmountTaken = amountTaken
-reasonOf ConflictAtBounding = conflictAtBounding
-reasonOf NoReserve = noReserve
-reasonOf ReserveUsed = reserveUsed
+abbrev pub reason_of : Reason → matching.Reason
+reason_of SplitWithoutAmount = split_without_amount
+reason_of ConflictAtEqual = conflict_at_equal
+reason_of AmountTaken = amount_taken
+reason_of ConflictAtBounding = conflict_at_bounding
+reason_of NoReserve = no_reserve
+reason_of ReserveUsed = reserve_used
 
 -- the answer, with the marks after it
 abbrev pub answer_of : Answer → Marks → matching.Answer
-answer_of (Covered c) after = cover (coverOf c) after
-answer_of (Rejected r) after = rejection (reasonOf r)
+answer_of (Covered c) after = cover (cover_of c) after
+answer_of (Rejected r) after = rejection (reason_of r)
 
 -- the other way round: the code's cover, reason and answer
-abbrev pub codedCover : matching.Cover → Cover
-codedCover (equalDebit i) = EqualDebit i
-codedCover (equalParameter i) = EqualParameter i
-codedCover (boundingDebit i) = BoundingDebit i
-codedCover (boundingParameter i) = BoundingParameter i
-codedCover (reserve i) = Reserve i
+abbrev pub coded_cover : matching.Cover → Cover
+coded_cover (equal_debit i) = EqualDebit i
+coded_cover (equal_parameter i) = EqualParameter i
+coded_cover (bounding_debit i) = BoundingDebit i
+coded_cover (bounding_parameter i) = BoundingParameter i
+coded_cover (reserve i) = Reserve i
 
-abbrev pub codedReason : matching.Reason → Reason
-codedReason splitWithoutAmount = SplitWithoutAmount
-codedReason conflictAtEqual = ConflictAtEqual
-codedReason amountTaken = AmountTaken
-codedReason conflictAtBounding = ConflictAtBounding
-codedReason noReserve = NoReserve
-codedReason reserveUsed = ReserveUsed
+abbrev pub coded_reason : matching.Reason → Reason
+coded_reason split_without_amount = SplitWithoutAmount
+coded_reason conflict_at_equal = ConflictAtEqual
+coded_reason amount_taken = AmountTaken
+coded_reason conflict_at_bounding = ConflictAtBounding
+coded_reason no_reserve = NoReserve
+coded_reason reserve_used = ReserveUsed
 
 unfoldable pub coded : matching.Answer → Answer
-coded (cover c after) = Covered (codedCover c)
-coded (rejection r) = Rejected (codedReason r)
+coded (cover c after) = Covered (coded_cover c)
+coded (rejection r) = Rejected (coded_reason r)
 
 -- the marks after a cover: what it names is taken or used. `count` is the number of debits
-unfoldable pub afterCover : Coded → ℕ → Cover → Coded
-afterCover m count (EqualDebit i) = without m i
-afterCover m count (EqualParameter i) = without m (count + i)
-afterCover m count (BoundingDebit i) = without m i
-afterCover m count (BoundingParameter i) = without m (count + i)
-afterCover m count (Reserve i) = withUsed m i
+unfoldable pub after_cover : Coded → ℕ → Cover → Coded
+after_cover m count (EqualDebit i) = without m i
+after_cover m count (EqualParameter i) = without m (count + i)
+after_cover m count (BoundingDebit i) = without m i
+after_cover m count (BoundingParameter i) = without m (count + i)
+after_cover m count (Reserve i) = with_used m i
 
 -- and after an answer: a rejection changes nothing
-unfoldable pub afterAnswer : Coded → ℕ → Answer → Coded
-afterAnswer m count (Covered c) = afterCover m count c
-afterAnswer m count (Rejected r) = m
+unfoldable pub after_answer : Coded → ℕ → Answer → Coded
+after_answer m count (Covered c) = after_cover m count c
+after_answer m count (Rejected r) = m
 
 -- the cover by backing number i, which equals the amount
-unfoldable pub equalAt : (count i : ℕ) → Cover
-equalAt count i = cond (ltb i count) (EqualDebit i) (EqualParameter (i - count))
+unfoldable pub equal_at : (count i : ℕ) → Cover
+equal_at count i = cond (ltb i count) (EqualDebit i) (EqualParameter (i - count))
 
 -- or bounds it
-unfoldable pub boundingAt : (count i : ℕ) → Cover
-boundingAt count i = cond (ltb i count) (BoundingDebit i) (BoundingParameter (i - count))
+unfoldable pub bounding_at : (count i : ℕ) → Cover
+bounding_at count i = cond (ltb i count) (BoundingDebit i) (BoundingParameter (i - count))
 
 -- the answer by the reserve at an index, which may be used
-unfoldable pub reserveAt : Coded → ℕ → Answer
-reserveAt m i = cond (any (eqb i) (downFrom (usedAt m) m.uses)) (Rejected ReserveUsed) (Covered (Reserve i))
+unfoldable pub reserve_at : Coded → ℕ → Answer
+reserve_at m i = cond (any (eqb i) (down_from (used_at m) m.uses)) (Rejected ReserveUsed) (Covered (Reserve i))
 
 -- a step of the definition, for the k-th payout of an entry and the marks that the code's stand for
-abbrev pub atPayout : (Fields → Field → Marks → Field → matching.Answer) → List ℕ → Entry → Coded → ℕ → matching.Answer
-atPayout step file e m k = step (fields file) (entry_of file e.place) (marksOf (backingsOf file e.place) m) (payoutAt file e k)
+abbrev pub at_payout : (Fields → Field → Marks → Field → matching.Answer) → List ℕ → Entry → Coded → ℕ → matching.Answer
+at_payout step file e m k = step (fields file) (entry_of file e.place) (marks_of (backings_of file e.place) m) (payout_at file e k)
 
 -- the code's answer and marks are those that the definition gives for a payout, whatever the order in which its marks stand
 pub record Answers (model : Fields) (entry : Field) (bs : List Backing) (s : Marks) (p : Field) (r : Answered) : Type 0 where
@@ -102,5 +102,5 @@ pub record Answers (model : Fields) (entry : Field) (bs : List Backing) (s : Mar
 -- for all marks that the code's stand for
 abbrev pub AnswersFor : List ℕ → Entry → Coded → ℕ → Answered → Type 0
 AnswersFor file e m k r =
-    (before : Marks) → Stands (backingsOf file e.place) m before →
-    Answers (fields file) (entry_of file e.place) (backingsOf file e.place) before (payoutAt file e k) r
+    (before : Marks) → Stands (backings_of file e.place) m before →
+    Answers (fields file) (entry_of file e.place) (backings_of file e.place) before (payout_at file e k) r

@@ -9,8 +9,8 @@ use Rattle.backings.specs.Tables.{Admitted}
 use Rattle.matching.specs.declared.answer.Pass.{Pass}
 
 -- the k-th payout
-abbrev pub payoutAt : List ℕ → Entry → ℕ → Field
-payoutAt file e k = front (drop (get_or e.paid k 0) file)
+abbrev pub payout_at : List ℕ → Entry → ℕ → Field
+payout_at file e k = front (drop (get_or e.paid k 0) file)
 
 -- the entry is past questions 10 and 11, the guards that can matter are listed, and what a table says of the file is right
 pub record Prepared (file : List ℕ) (e : Entry) (candidates facts : List ℕ) : Type 0 where

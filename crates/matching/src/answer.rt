@@ -4,9 +4,9 @@
 ghost use Rattle.std.specs.Prelude.{◌≡◌, ◌+◌, ◌*◌, ◌≤◌, length, get_or, drop};
 ghost use Rattle.reserves.specs.Holding.{Facts};
 ghost use Rattle.backings.specs.Tables.{Admitted};
-ghost use Rattle.matching.specs.Matching.{byReserve, byBounding, notTaken, byEqual, answer};
+ghost use Rattle.matching.specs.Matching.{by_reserve, by_bounding, not_taken, by_equal, answer};
 ghost use Rattle.matching.specs.Prepared.{Ready};
-ghost use Rattle.matching.specs.Coded.{coded, atPayout, equalAt, boundingAt, reserveAt, afterCover, afterAnswer, AnswersFor};
+ghost use Rattle.matching.specs.Coded.{coded, at_payout, equal_at, bounding_at, reserve_at, after_cover, after_answer, AnswersFor};
 
 use backings::backing::tokens_conflict;
 use backings::marks::{
@@ -75,7 +75,7 @@ pub struct Answered {
 
 // The marks after a cover.
 fn after_cover(marks: Marks, debits: usize, cover: Cover) -> Marks
-    ensures { result ≡ afterCover marks debits cover }
+    ensures { result ≡ after_cover marks debits cover }
 {
     match cover {
         Cover::EqualDebit { index } => take_backing(marks, index),
@@ -88,7 +88,7 @@ fn after_cover(marks: Marks, debits: usize, cover: Cover) -> Marks
 
 // The cover by backing number i, which equals the amount.
 fn equal_cover(debits: usize, i: usize) -> Cover
-    ensures { result ≡ equalAt debits i }
+    ensures { result ≡ equal_at debits i }
 {
     if i < debits {
         return Cover::EqualDebit { index: i };
@@ -98,7 +98,7 @@ fn equal_cover(debits: usize, i: usize) -> Cover
 
 // The cover by backing number i, which bounds it.
 fn bounding_cover(debits: usize, i: usize) -> Cover
-    ensures { result ≡ boundingAt debits i }
+    ensures { result ≡ bounding_at debits i }
 {
     if i < debits {
         return Cover::BoundingDebit { index: i };
@@ -108,7 +108,7 @@ fn bounding_cover(debits: usize, i: usize) -> Cover
 
 // The reserve at an index, rejecting if it is used.
 fn by_reserve_at(marks: Marks, index: usize) -> Answer
-    ensures { result ≡ reserveAt marks index }
+    ensures { result ≡ reserve_at marks index }
 {
     if is_used(marks, index) {
         return Answer::Rejected {
@@ -132,7 +132,7 @@ fn by_reserve(
 ) -> Answer
     requires ready { Ready file.now entry candidates.now facts.old pass k }
     requires scratch { length file.now ≤ 3 * length scratch.old }
-    ensures answers { result ≡ coded (atPayout byReserve file.now entry pass.marks k) }
+    ensures answers { result ≡ coded (at_payout by_reserve file.now entry pass.marks k) }
     ensures facts { Facts file.now facts.new }
 {
     match reserve_bounding_payout(file, entry, k, candidates, facts, scratch) {
@@ -163,7 +163,7 @@ fn by_bounding(
 ) -> Found
     requires ready { Ready file.now entry candidates.now facts.old pass k }
     requires scratch { length file.now ≤ 3 * length scratch.old }
-    ensures answers { result.answer ≡ coded (atPayout byBounding file.now entry pass.marks k) }
+    ensures answers { result.answer ≡ coded (at_payout by_bounding file.now entry pass.marks k) }
     ensures facts { Facts file.now facts.new }
     ensures admits { Admitted (drop entry.place file.now) result.admitted }
 {
@@ -204,7 +204,7 @@ fn not_taken(
 ) -> Found
     requires ready { Ready file.now entry candidates.now facts.old pass k }
     requires scratch { length file.now ≤ 3 * length scratch.old }
-    ensures answers { result.answer ≡ coded (atPayout notTaken file.now entry pass.marks k) }
+    ensures answers { result.answer ≡ coded (at_payout not_taken file.now entry pass.marks k) }
     ensures facts { Facts file.now facts.new }
     ensures admits { Admitted (drop entry.place file.now) result.admitted }
 {
@@ -231,7 +231,7 @@ fn by_equal(
 ) -> Found
     requires ready { Ready file.now entry candidates.now facts.old pass k }
     requires scratch { length file.now ≤ 3 * length scratch.old }
-    ensures answers { result.answer ≡ coded (atPayout byEqual file.now entry pass.marks k) }
+    ensures answers { result.answer ≡ coded (at_payout by_equal file.now entry pass.marks k) }
     ensures facts { Facts file.now facts.new }
     ensures admits { Admitted (drop entry.place file.now) result.admitted }
 {
@@ -269,7 +269,7 @@ fn cover_payout(
 ) -> Found
     requires ready { Ready file.now entry candidates.now facts.old pass k }
     requires scratch { length file.now ≤ 3 * length scratch.old }
-    ensures answers { result.answer ≡ coded (atPayout answer file.now entry pass.marks k) }
+    ensures answers { result.answer ≡ coded (at_payout answer file.now entry pass.marks k) }
     ensures facts { Facts file.now facts.new }
     ensures admits { Admitted (drop entry.place file.now) result.admitted }
 {
@@ -286,7 +286,7 @@ fn cover_payout(
 
 // The marks after an answer.
 fn after_answer(marks: Marks, debits: usize, answer: Answer) -> Marks
-    ensures { result ≡ afterAnswer marks debits answer }
+    ensures { result ≡ after_answer marks debits answer }
 {
     match answer {
         Answer::Covered { cover } => after_cover(marks, debits, cover),

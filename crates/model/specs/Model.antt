@@ -1,7 +1,7 @@
 -- The model that a file carries: its state fields, genesis statements and entries, and the parts of an entry.
 use Rattle.std.specs.Prelude.{ℕ, List, map}
 use Rattle.tags.specs.Tag.{State, Genesis, Entry, Parameter, Limits, Denies, Guard, ExpressionStatement}
-use Rattle.fields.specs.Field.{Field, Fields, Placed, text, parts, part, fieldsFrom, placedFrom}
+use Rattle.fields.specs.Field.{Field, Fields, Placed, text, parts, part, fields_from, placed_from}
 
 -- the name of a state field, an entry or a parameter
 abbrev pub name_of : Field → List ℕ
@@ -9,28 +9,28 @@ name_of f = text (part 0 f)
 
 -- the state fields, in file order
 unfoldable pub states : Fields → List Placed
-states model = placedFrom State State 0 model
+states model = placed_from State State 0 model
 
 -- their names
-unfoldable pub stateNames : Fields → List (List ℕ)
-stateNames model = map name_of (fieldsFrom State State model)
+unfoldable pub state_names : Fields → List (List ℕ)
+state_names model = map name_of (fields_from State State model)
 
 -- the genesis statements: each 02 holds one
 unfoldable pub genesis : Fields → List Field
-genesis model = map (part 0) (fieldsFrom Genesis Genesis model)
+genesis model = map (part 0) (fields_from Genesis Genesis model)
 
 -- the entries
 unfoldable pub entries : Fields → List Placed
-entries model = placedFrom Entry Entry 0 model
+entries model = placed_from Entry Entry 0 model
 
 -- the parameters of an entry
 unfoldable pub params : Field → List Field
-params entry = fieldsFrom Parameter Parameter (parts entry)
+params entry = fields_from Parameter Parameter (parts entry)
 
 -- its clauses
 unfoldable pub clauses : Field → List Field
-clauses entry = fieldsFrom Limits Denies (parts entry)
+clauses entry = fields_from Limits Denies (parts entry)
 
 -- its body statements
 unfoldable pub body : Field → List Field
-body entry = fieldsFrom Guard ExpressionStatement (parts entry)
+body entry = fields_from Guard ExpressionStatement (parts entry)

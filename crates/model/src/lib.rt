@@ -3,9 +3,9 @@
 // holds none.
 ghost use Rattle.std.specs.Prelude.{◌≡◌, take, drop, get_or};
 ghost use Rattle.laws.specs.Lists.{any};
-ghost use Rattle.laws.specs.Texts.{sameBytes};
+ghost use Rattle.laws.specs.Texts.{same_bytes};
 ghost use Rattle.fields.specs.Field.{fields, front, nothing};
-ghost use Rattle.model.specs.Model.{name_of, stateNames, states, genesis, entries, params, clauses, body};
+ghost use Rattle.model.specs.Model.{name_of, state_names, states, genesis, entries, params, clauses, body};
 ghost use Rattle.model.specs.Shown.{shown};
 
 use fields::bytes::same_bytes;
@@ -21,7 +21,7 @@ pub fn name_of(s: &[u8]) -> &[u8]
 
 // Whether a state field of s has this name.
 pub fn has_state(s: &[u8], name: &[u8]) -> bool
-    ensures { result ≡ any (sameBytes name.now) (stateNames (fields s.now)) }
+    ensures { result ≡ any (same_bytes name.now) (state_names (fields s.now)) }
 {
     let mut t = first_from(s, STATE, STATE);
     while is_whole(t) {

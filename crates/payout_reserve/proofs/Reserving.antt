@@ -5,97 +5,97 @@ use mathlib.Core.Bool.{and-false}
 use mathlib.Core.List.{flat_map}
 use mathlib.Core.Option.{none}
 use lib.ListN.{length-replicate, get_or-eq_default}
-use Rattle.laws.specs.Texts.{known, sameBytes}
+use Rattle.laws.specs.Texts.{known, same_bytes}
 use Rattle.laws.specs.Lists.{any, filter}
 use Rattle.laws.proofs.Finding.{find_none}
-use Rattle.tags.specs.Tag.{Call, isWrapper}
+use Rattle.tags.specs.Tag.{Call, is_wrapper}
 use Rattle.fields.specs.Field.{Field, Fields, fields, nothing, nth, placed}
 use Rattle.fields.specs.Table.{Listed, fields_at}
-use Rattle.model.specs.Model.{entries, body, stateNames}
-use Rattle.walking.specs.Walking.{peel, ident, bodyExprs, exprs, payouts, isPayout}
-use Rattle.walking.specs.Table.{mostFields, placed_at, places_of}
+use Rattle.model.specs.Model.{entries, body, state_names}
+use Rattle.walking.specs.Walking.{peel, ident, body_exprs, exprs, payouts, is_payout}
+use Rattle.walking.specs.Table.{most_fields, placed_at, places_of}
 use Rattle.walking.proofs.Calls.{payout-call}
-use Rattle.guards.specs.Guards.{containsInflow, guardedBy, lowers}
-use Rattle.guards.specs.Payouts.{payoutToken}
-use Rattle.guards.specs.Asked.{askedToken, paidAt, askedAmount, inflowAmounts}
-use Rattle.entries.specs.Calls.{placesWhere}
+use Rattle.guards.specs.Guards.{contains_inflow, guarded_by, lowers}
+use Rattle.guards.specs.Payouts.{payout_token}
+use Rattle.guards.specs.Asked.{asked_token, paid_at, asked_amount, inflow_amounts}
+use Rattle.entries.specs.Calls.{places_where}
 use Rattle.entries.specs.Entered.{entry_of, nowhere, CallsOf, Lent}
 use Rattle.entries.proofs.Called.{where-counted, where-read, payouts-where}
 use Rattle.entries.proofs.Reading.{calls-fit, calls-part, calls-all, places-few, table-long, field-there}
-use Rattle.reserves.specs.Reserves.{reserveCovers, reserveBoundingPayout}
-use Rattle.reserves.specs.Candidates.{Candidates, candidateNumbers}
-use Rattle.reserves.specs.Covers.{reserveOf}
+use Rattle.reserves.specs.Reserves.{reserve_covers, reserve_bounding_payout}
+use Rattle.reserves.specs.Candidates.{Candidates, candidate_numbers}
+use Rattle.reserves.specs.Covers.{reserve_of}
 use Rattle.reserves.specs.declared.covering.Reserve.{Reserve}
 use Rattle.reserves.specs.declared.covering.Reserve.TheVariants.{Nothing}
-use Rattle.claim.specs.Claim.{payoutAt}
-use Rattle.claim.specs.Reserve.{payoutReserve}
+use Rattle.claim.specs.Claim.{payout_at}
+use Rattle.claim.specs.Reserve.{payout_reserve}
 use Rattle.claim.specs.Verdict.{entry_at}
 use Rattle.verdict.specs.Place.{Found}
 use Rattle.verdict.specs.declared.entry.Place.{Place}
 use Rattle.verdict.specs.declared.entry.Place.TheVariants.{At, Nowhere}
 use Rattle.verdict.proofs.Asking.{entry-missing, entry-there}
 use Rattle.verdict.proofs.Preparing.{numbers_fit, numbers-part, numbers-exact}
-use Rattle.payout_reserve.specs.Asked.{askedReserve}
+use Rattle.payout_reserve.specs.Asked.{asked_reserve}
 
 -- Nothing is asked for
 
-no-token : payoutToken nothing ≡ []
-unfolding payoutToken ident peel isWrapper nth
+no-token : payout_token nothing ≡ []
+unfolding payout_token ident peel is_wrapper nth
 no-token = refl
 
-unasked : (model : Fields) (entry amount : Field) (r : List ℕ) → reserveCovers model entry amount [] r ≡ false
-unfolding reserveCovers known
+unasked : (model : Fields) (entry amount : Field) (r : List ℕ) → reserve_covers model entry amount [] r ≡ false
+unfolding reserve_covers known
 unasked model entry amount r =
-    rw (and-false (containsInflow entry amount && any (sameBytes r) (stateNames model) && any (sameBytes r) (guardedBy entry amount) && any (lowers amount r) (body entry)))
+    rw (and-false (contains_inflow entry amount && any (same_bytes r) (state_names model) && any (same_bytes r) (guarded_by entry amount) && any (lowers amount r) (body entry)))
 
-none_found : (model : Fields) (entry amount : Field) → reserveBoundingPayout model entry amount [] ≡ none
-unfolding reserveBoundingPayout
-none_found model entry amount = find_none (reserveCovers model entry amount []) (unasked model entry amount) (guardedBy entry amount)
+none_found : (model : Fields) (entry amount : Field) → reserve_bounding_payout model entry amount [] ≡ none
+unfolding reserve_bounding_payout
+none_found model entry amount = find_none (reserve_covers model entry amount []) (unasked model entry amount) (guarded_by entry amount)
 
-unpaid : (model : Fields) (entry : Field) (k : ℕ) → payoutAt model entry k ≡ nothing → Nothing ≡ reserveOf model (payoutReserve model entry k)
-unfolding payoutReserve reserveOf
+unpaid : (model : Fields) (entry : Field) (k : ℕ) → payout_at model entry k ≡ nothing → Nothing ≡ reserve_of model (payout_reserve model entry k)
+unfolding payout_reserve reserve_of
 unpaid model entry k e = rw (e, no-token, none_found model entry _)
 
 -- The payout alone in a table
 
 module _ (file : List ℕ) (place : ℕ) (small : length file ≤ 32768) where
-  table-lent : place ≤ length file → Lent file place (replicate mostFields 0)
-  table-lent h = record { small = small; inside = h; room = omega (arith, small, length-replicate {A = ℕ} mostFields 0) }
+  table-lent : place ≤ length file → Lent file place (replicate most_fields 0)
+  table-lent h = record { small = small; inside = h; room = omega (arith, small, length-replicate {A = ℕ} most_fields 0) }
 
-  module _ (inside : place ≤ length file) (calls : List ℕ) (count : ℕ) (l : Listed (places_of Call (bodyExprs (placed_at file place))) (replicate mostFields 0) 0 calls count) where
+  module _ (inside : place ≤ length file) (calls : List ℕ) (count : ℕ) (l : Listed (places_of Call (body_exprs (placed_at file place))) (replicate most_fields 0) 0 calls count) where
     pub all_fit : count ≤ length calls
-    all_fit = calls-fit file place (replicate mostFields 0) (table-lent inside) calls count l
+    all_fit = calls-fit file place (replicate most_fields 0) (table-lent inside) calls count l
 
     pub all-part : count ≡ length (take count calls)
-    all-part = calls-part file place (replicate mostFields 0) (table-lent inside) calls count l
+    all-part = calls-part file place (replicate most_fields 0) (table-lent inside) calls count l
 
     pub all-calls : CallsOf file place (take count calls)
-    all-calls = calls-all file place (replicate mostFields 0) (table-lent inside) calls count l
+    all-calls = calls-all file place (replicate most_fields 0) (table-lent inside) calls count l
 
   module _ (paid last : List ℕ) (one : 1 ≤ length paid) (r : ℕ)
-      (p : Listed (candidateNumbers (fields file) (inflowAmounts file place paid 1) (placed_at file place)) (replicate mostFields 0) 0 last r) where
-    room : length file ≤ 3 * length (replicate {A = ℕ} mostFields 0)
-    room = omega (arith, small, length-replicate {A = ℕ} mostFields 0)
+      (p : Listed (candidate_numbers (fields file) (inflow_amounts file place paid 1) (placed_at file place)) (replicate most_fields 0) 0 last r) where
+    room : length file ≤ 3 * length (replicate {A = ℕ} most_fields 0)
+    room = omega (arith, small, length-replicate {A = ℕ} most_fields 0)
 
     pub alone-fit : r ≤ length last
-    alone-fit = numbers_fit file place paid 1 one (replicate mostFields 0) last r p room
+    alone-fit = numbers_fit file place paid 1 one (replicate most_fields 0) last r p room
 
     pub alone-part : r ≡ length (take r last)
-    alone-part = numbers-part file place paid 1 one (replicate mostFields 0) last r p room
+    alone-part = numbers-part file place paid 1 one (replicate most_fields 0) last r p room
 
     pub alone-listed : Candidates file place paid 1 (take r last) (length (take r last))
-    alone-listed = numbers-exact file place paid 1 one (replicate mostFields 0) last r p room
+    alone-listed = numbers-exact file place paid 1 one (replicate most_fields 0) last r p room
 
 pub alone-asked : (file payouts : List ℕ) (place k x : ℕ) → x ≡ get_or payouts k 0 → (r : Reserve) →
-    r ≡ reserveOf (fields file) (reserveBoundingPayout (fields file) (entry_of file place) (askedAmount file (set (replicate 65 0) 0 x) 0) (askedToken file (set (replicate 65 0) 0 x) 0)) →
-    r ≡ askedReserve file place payouts k
-unfolding askedReserve askedToken askedAmount
+    r ≡ reserve_of (fields file) (reserve_bounding_payout (fields file) (entry_of file place) (asked_amount file (set (replicate 65 0) 0 x) 0) (asked_token file (set (replicate 65 0) 0 x) 0)) →
+    r ≡ asked_reserve file place payouts k
+unfolding asked_reserve asked_token asked_amount
 alone-asked file payouts place k x e r f = rw (← e) f
 
 -- The payout at its place
 
 module _ (file : List ℕ) (place : ℕ) (calls : List ℕ) (c : CallsOf file place calls) (table : List ℕ) (m : ℕ)
-    (p : Listed (placesWhere file isPayout calls) (replicate mostFields 0) 0 table m) where
+    (p : Listed (places_where file is_payout calls) (replicate most_fields 0) 0 table m) where
   abbrev model : Fields
   model = fields file
 
@@ -103,39 +103,39 @@ module _ (file : List ℕ) (place : ℕ) (calls : List ℕ) (c : CallsOf file pl
   entry = entry_of file place
 
   counted : m ≡ length (payouts entry)
-  counted = where-counted file place calls c isPayout payout-call (replicate mostFields 0) table m p ∙ ap length (payouts-where (placed_at file place))
+  counted = where-counted file place calls c is_payout payout-call (replicate most_fields 0) table m p ∙ ap length (payouts-where (placed_at file place))
 
-  pub payout-missing : (k : ℕ) → m ≤ k → Nothing ≡ reserveOf model (payoutReserve model entry k)
+  pub payout-missing : (k : ℕ) → m ≤ k → Nothing ≡ reserve_of model (payout_reserve model entry k)
   payout-missing k h = unpaid model entry k (get_or-eq_default (payouts entry) nothing (omega (arith, h, counted)))
 
-  few : m ≤ length (replicate {A = ℕ} mostFields 0)
-  few = omega (arith, length-replicate {A = ℕ} mostFields 0, places-few file place calls c isPayout (replicate mostFields 0) table m p, c.small)
+  few : m ≤ length (replicate {A = ℕ} most_fields 0)
+  few = omega (arith, length-replicate {A = ℕ} most_fields 0, places-few file place calls c is_payout (replicate most_fields 0) table m p, c.small)
 
   read : fields_at file (take m table) ≡ payouts entry
-  read = where-read file place calls c isPayout payout-call (replicate mostFields 0) table m p few ∙ payouts-where (placed_at file place)
+  read = where-read file place calls c is_payout payout-call (replicate most_fields 0) table m p few ∙ payouts-where (placed_at file place)
 
   pub payout-among : (k : ℕ) → k < m → k < length table
   payout-among k h = omega (arith, h, table-long file table m (payouts entry) read counted)
 
-  pub payout-found : (k : ℕ) → k < m → (r : Reserve) → r ≡ askedReserve file place table k → r ≡ reserveOf model (payoutReserve model entry k)
-  unfolding payoutReserve askedReserve askedToken askedAmount paidAt
+  pub payout-found : (k : ℕ) → k < m → (r : Reserve) → r ≡ asked_reserve file place table k → r ≡ reserve_of model (payout_reserve model entry k)
+  unfolding payout_reserve asked_reserve asked_token asked_amount paid_at
   payout-found k h r j = j ∙ rw (field-there file table m (payouts entry) read counted k h)
 
 -- The entry at its place
 
 no-payouts : payouts nothing ≡ []
-unfolding payouts exprs bodyExprs placed filter flat_map
+unfolding payouts exprs body_exprs placed filter flat_map
 no-payouts = refl
 
 module _ (file : List ℕ) (n k : ℕ) (s : Place) (e : Found file n s) where
-  pub reserve-missing : s ≡ Nowhere → Nothing ≡ reserveOf (fields file) (payoutReserve (fields file) (entry_at (fields file) n).this k)
+  pub reserve-missing : s ≡ Nowhere → Nothing ≡ reserve_of (fields file) (payout_reserve (fields file) (entry_at (fields file) n).this k)
   reserve-missing f =
       let g : (entry_at (fields file) n).this ≡ nothing = ap (λ p. p.this) (get_or-eq_default (entries (fields file)) nowhere (entry-missing file n s e f)) in
       unpaid (fields file) (entry_at (fields file) n).this k (rw (g, no-payouts))
 
   pub reserve-there : (place : ℕ) → s ≡ At place → (r : Reserve) →
-      r ≡ reserveOf (fields file) (payoutReserve (fields file) (entry_of file place) k) →
-      r ≡ reserveOf (fields file) (payoutReserve (fields file) (entry_at (fields file) n).this k)
+      r ≡ reserve_of (fields file) (payout_reserve (fields file) (entry_of file place) k) →
+      r ≡ reserve_of (fields file) (payout_reserve (fields file) (entry_at (fields file) n).this k)
   reserve-there place f r g = rw (entry-there file n s e place f) g
 
   pub place_inside : (place : ℕ) → s ≡ At place → place ≤ length file

@@ -3,11 +3,11 @@
 // decides, and uses it up.
 ghost use Rattle.std.specs.Prelude.{◌≡◌, ◌≤◌, ◌<◌, length};
 ghost use Rattle.fields.specs.Field.{fields};
-ghost use Rattle.reserves.specs.Covers.{reserveOf};
+ghost use Rattle.reserves.specs.Covers.{reserve_of};
 ghost use Rattle.entries.specs.Entered.{entry_of, CallsOf};
 ghost use Rattle.claim.specs.Verdict.{entry_at};
-ghost use Rattle.claim.specs.Reserve.{payoutReserve};
-ghost use Rattle.payout_reserve.specs.Asked.{askedReserve};
+ghost use Rattle.claim.specs.Reserve.{payout_reserve};
+ghost use Rattle.payout_reserve.specs.Asked.{asked_reserve};
 
 use entries::calls::list_payouts;
 use entries::entry::Entry;
@@ -22,7 +22,7 @@ use walking::walk::{MOST_FIELDS, list_body};
 fn reserve_for(file: &[u8], place: usize, payouts: &[u16], k: usize) -> Reserve
     requires short { length file.now ≤ 32768 }
     requires among { k < length payouts.now }
-    ensures { result ≡ askedReserve file.now place payouts.now k }
+    ensures { result ≡ asked_reserve file.now place payouts.now k }
 {
     let mut paid = [0u16; 65];
     paid[0] = payouts[k];
@@ -51,7 +51,7 @@ fn reserve_for(file: &[u8], place: usize, payouts: &[u16], k: usize) -> Reserve
 // That of the k-th payout among the calls of the entry at a place of the file.
 fn reserve_among(file: &[u8], place: usize, calls: &[u16], k: usize) -> Reserve
     requires { CallsOf file.now place calls.now }
-    ensures { result ≡ reserveOf (fields file.now) (payoutReserve (fields file.now) (entry_of file.now place) k) }
+    ensures { result ≡ reserve_of (fields file.now) (payout_reserve (fields file.now) (entry_of file.now place) k) }
 {
     let mut payouts = [0u16; MOST_FIELDS];
     let count = list_payouts(file, calls, &mut payouts);
@@ -66,7 +66,7 @@ fn reserve_among(file: &[u8], place: usize, calls: &[u16], k: usize) -> Reserve
 fn reserve_at(file: &[u8], place: usize, k: usize) -> Reserve
     requires short { length file.now ≤ 32768 }
     requires inside { place ≤ length file.now }
-    ensures { result ≡ reserveOf (fields file.now) (payoutReserve (fields file.now) (entry_of file.now place) k) }
+    ensures { result ≡ reserve_of (fields file.now) (payout_reserve (fields file.now) (entry_of file.now place) k) }
 {
     let mut calls = [0u16; MOST_FIELDS];
     let count = list_body(file, place, CALL, &mut calls);
@@ -76,7 +76,7 @@ fn reserve_at(file: &[u8], place: usize, k: usize) -> Reserve
 // That of the k-th payout of the n-th entry, both counted from 0.
 pub fn payout_reserve(file: &[u8], n: usize, k: usize) -> Reserve
     requires { length file.now ≤ 32768 }
-    ensures { result ≡ reserveOf (fields file.now) (payoutReserve (fields file.now) (entry_at (fields file.now) n).this k) }
+    ensures { result ≡ reserve_of (fields file.now) (payout_reserve (fields file.now) (entry_at (fields file.now) n).this k) }
 {
     match place_of_entry(file, n) {
         Place::Nowhere => Reserve::Nothing,

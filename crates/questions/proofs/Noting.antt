@@ -5,38 +5,38 @@ use borrow.Author.Tests.{eqb-false}
 use lib.ListN.{get_or-eq_default}
 use lib.Seq.{set_out}
 use Rattle.laws.specs.Lists.{any}
-use Rattle.laws.specs.Texts.{sameBytes}
+use Rattle.laws.specs.Texts.{same_bytes}
 use Rattle.laws.proofs.Lists.{any_append}
 use Rattle.laws.proofs.Texts.{bytes-equal}
 use Rattle.fields.specs.Field.{tag_of, front}
 use Rattle.model.specs.Model.{name_of}
-use Rattle.questions.specs.Noted.{nameNumber, note_of, joinedNote, held_at, shows, with_number, Noted, namesWith}
+use Rattle.questions.specs.Noted.{name_number, note_of, joined_note, held_at, shows, with_number, Noted, names_with}
 
 -- whether a place that holds this shows the note
-abbrev showsNote : ℕ → ℕ → Bool
-showsNote held note = eqb held note || eqb held 255
+abbrev shows_note : ℕ → ℕ → Bool
+shows_note held note = eqb held note || eqb held 255
 
-several-shows : (note : ℕ) → showsNote 255 note ≡ true
+several-shows : (note : ℕ) → shows_note 255 note ≡ true
 several-shows note = or-true (eqb 255 note)
 
-several-stays : (n : ℕ) → joinedNote 255 (note_of n) ≡ 255
-unfolding joinedNote
+several-stays : (n : ℕ) → joined_note 255 (note_of n) ≡ 255
+unfolding joined_note
 several-stays n = rw (ne_eqb 255 (note_of n) (λ e. omega arith))
 
 -- a note that joins what is held is shown, and what was shown before still is
-joined-shows : (held note : ℕ) → showsNote (joinedNote held note) note ≡ true
-unfolding joinedNote
+joined-shows : (held note : ℕ) → shows_note (joined_note held note) note ≡ true
+unfolding joined_note
 joined-shows held note = go (eqb held 0 || eqb held note)
   where
-    go : (k : Bool) → showsNote (cond k note 255) note ≡ true
+    go : (k : Bool) → shows_note (cond k note 255) note ≡ true
     go true = rw (eq-eqb note note refl)
     go false = several-shows note
 
-joined_keeps : (held note n : ℕ) → showsNote held (n + 1) ≡ true → showsNote (joinedNote held note) (n + 1) ≡ true
-unfolding joinedNote
+joined_keeps : (held note n : ℕ) → shows_note held (n + 1) ≡ true → shows_note (joined_note held note) (n + 1) ≡ true
+unfolding joined_note
 joined_keeps held note n e = go (eqb held 0) (eqb held note) refl refl
   where
-    go : (j k : Bool) → eqb held 0 ≡ j → eqb held note ≡ k → showsNote (cond (j || k) note 255) (n + 1) ≡ true
+    go : (j k : Bool) → eqb held 0 ≡ j → eqb held note ≡ k → shows_note (cond (j || k) note 255) (n + 1) ≡ true
     go true k h i = cc (rw (eqb-true held 0 h, ne_eqb 0 (n + 1) (λ z. omega arith)) at e)
     go false true h i = rw (← eqb-true held note i) e
     go false false h i = several-shows (n + 1)
@@ -53,7 +53,7 @@ module _ (t : List ℕ) (n : ℕ) where
 
   pub no-room-kept : length t ≡ 0 → t ≡ with_number t n
   unfolding with_number
-  no-room-kept z = sym (set_out t (n % length t) (joinedNote (held_at t n) (note_of n)) (omega arith))
+  no-room-kept z = sym (set_out t (n % length t) (joined_note (held_at t n) (note_of n)) (omega arith))
 
   module _ (d : length t ≡ 0 → ⊥) where
     pub has-place : n % length t < length t
@@ -67,26 +67,26 @@ module _ (t : List ℕ) (n : ℕ) where
     unfolding shows
     place-shows = rw held
 
-    pub place-noted : (r : ℕ) → r ≡ joinedNote (get_or t (n % length t) 0) (note_of n) → set t (n % length t) r ≡ with_number t n
+    pub place-noted : (r : ℕ) → r ≡ joined_note (get_or t (n % length t) 0) (note_of n) → set t (n % length t) r ≡ with_number t n
     unfolding with_number
     place-noted r e = rw (e, held)
 
 -- one more number: at its place the notes are joined, and every other place is as it was
 module _ (t : List ℕ) (m n : ℕ) where
-  same_place : n % length t ≡ m % length t → held_at (with_number t m) n ≡ joinedNote (held_at t n) (note_of m)
+  same_place : n % length t ≡ m % length t → held_at (with_number t m) n ≡ joined_note (held_at t n) (note_of m)
   unfolding held_at with_number
   same_place e = rw (length-set, e) (go (ltb (m % length t) (length t)) refl)
     where
       go : (k : Bool) → ltb (m % length t) (length t) ≡ k →
-          get_or (set t (m % length t) (joinedNote (held_at t m) (note_of m))) (m % length t) 255 ≡ joinedNote (held_at t m) (note_of m)
-      go true h = get_or-set_same t (m % length t) (joinedNote (held_at t m) (note_of m)) 255 (ltb-true (m % length t) (length t) h)
+          get_or (set t (m % length t) (joined_note (held_at t m) (note_of m))) (m % length t) 255 ≡ joined_note (held_at t m) (note_of m)
+      go true h = get_or-set_same t (m % length t) (joined_note (held_at t m) (note_of m)) 255 (ltb-true (m % length t) (length t) h)
       go false h =
           let g = ltb-false (m % length t) (length t) h in
-          rw (set_out t (m % length t) (joinedNote (held_at t m) (note_of m)) g, get_or-eq_default t 255 g) (sym (several-stays m))
+          rw (set_out t (m % length t) (joined_note (held_at t m) (note_of m)) g, get_or-eq_default t 255 g) (sym (several-stays m))
 
   other_place : (n % length t ≡ m % length t → ⊥) → held_at (with_number t m) n ≡ held_at t n
   unfolding held_at with_number
-  other_place d = rw length-set (get_or-set_other t (m % length t) (n % length t) (joinedNote (held_at t m) (note_of m)) 255 d)
+  other_place d = rw length-set (get_or-set_other t (m % length t) (n % length t) (joined_note (held_at t m) (note_of m)) 255 d)
 
   shows_kept : shows t n ≡ true → shows (with_number t m) n ≡ true
   unfolding shows
@@ -107,25 +107,25 @@ noted-none t = record { shown = λ name e. cc }
 
 module _ (names : List (List ℕ)) (t : List ℕ) (i : Noted names t) where
   -- a name that is not shown is none of them
-  pub not-shown : (name : List ℕ) → shows t (nameNumber name) ≡ false → any (sameBytes name) names ≡ false
-  not-shown name e = go (any (sameBytes name) names) refl
+  pub not-shown : (name : List ℕ) → shows t (name_number name) ≡ false → any (same_bytes name) names ≡ false
+  not-shown name e = go (any (same_bytes name) names) refl
     where
-      go : (k : Bool) → any (sameBytes name) names ≡ k → any (sameBytes name) names ≡ false
+      go : (k : Bool) → any (same_bytes name) names ≡ k → any (same_bytes name) names ≡ false
       go true h = cc (i.shown name h)
       go false h = h
 
-  noted_more : (name : List ℕ) → Noted (names ++ name ∷ []) (with_number t (nameNumber name))
+  noted_more : (name : List ℕ) → Noted (names ++ name ∷ []) (with_number t (name_number name))
   unfolding any
-  noted_more name = record { shown = λ x e. go x (any (sameBytes x) names) refl (rw (any_append (sameBytes x) names (name ∷ []), or-false) at e) }
+  noted_more name = record { shown = λ x e. go x (any (same_bytes x) names) refl (rw (any_append (same_bytes x) names (name ∷ []), or-false) at e) }
     where
-      go : (x : List ℕ) (k : Bool) → any (sameBytes x) names ≡ k → k || sameBytes x name ≡ true → shows (with_number t (nameNumber name)) (nameNumber x) ≡ true
-      go x true h e = shows_kept t (nameNumber name) (nameNumber x) (i.shown x h)
-      go x false h e = rw (bytes-equal x name e) (shows-noted t (nameNumber name))
+      go : (x : List ℕ) (k : Bool) → any (same_bytes x) names ≡ k → k || same_bytes x name ≡ true → shows (with_number t (name_number name)) (name_number x) ≡ true
+      go x true h e = shows_kept t (name_number name) (name_number x) (i.shown x h)
+      go x false h e = rw (bytes-equal x name e) (shows-noted t (name_number name))
 
   module _ (s : List ℕ) (g : ℕ) (f : g ≡ tag_of s) where
-    pub noted_other : (g ≡ 1 → ⊥) → Noted (namesWith names s) t
+    pub noted_other : (g ≡ 1 → ⊥) → Noted (names_with names s) t
     noted_other n = rw (← f, ne_eqb g 1 n, append-nil) i
 
-    pub noted-state : g ≡ 1 → (name : List ℕ) → name ≡ name_of (front s) → (m : ℕ) → m ≡ nameNumber name → (u : List ℕ) → u ≡ with_number t m →
-        Noted (namesWith names s) u
+    pub noted-state : g ≡ 1 → (name : List ℕ) → name ≡ name_of (front s) → (m : ℕ) → m ≡ name_number name → (u : List ℕ) → u ≡ with_number t m →
+        Noted (names_with names s) u
     noted-state h name e m k u q = rw (← f, eq-eqb g 1 h, ← e, q, k) (noted_more name)

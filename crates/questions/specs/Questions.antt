@@ -2,8 +2,8 @@
 use Rattle.std.specs.Prelude.{ℕ, suc, ◌+◌, Bool, true, false, cond, ◌&&◌, ◌||◌, not, List, [], ◌∷◌, ◌++◌, leb, length, drop}
 use Rattle.std.proofs.Math.Option.{none, some}
 use Rattle.laws.specs.Lists.{any, all}
-use Rattle.laws.specs.Texts.{sameBytes, known}
-use Rattle.tags.specs.Tag.{between, isExpression, isText}
+use Rattle.laws.specs.Texts.{same_bytes, known}
+use Rattle.tags.specs.Tag.{between, is_expression, is_text}
 use Rattle.fields.specs.Field.{Field, Fields, Placed, fields, tag, size}
 use Rattle.fields.specs.Field.Field.{field}
 use Rattle.fields.specs.Field.Fields.{end, next}
@@ -27,49 +27,49 @@ ask true n p = passes
 ask false n p = fails n p
 
 -- question 5: text bytes are 20 to 7E, and 20, 21 and 33 are not empty; an empty field holds nothing
-unfoldable pub contentAllowed : ℕ → List ℕ → Bool
-contentAllowed t x = cond (isText t) (all (between 0x20 0x7E) x && (known x || between 0x30 0x32 t)) (not (known x))
+unfoldable pub content_allowed : ℕ → List ℕ → Bool
+content_allowed t x = cond (is_text t) (all (between 0x20 0x7_e) x && (known x || between 0x30 0x32 t)) (not (known x))
 
 -- the depth of an expression inside a field with tag t: one more in an expression, 1 in a statement, clause or default
-abbrev pub depthInside : ℕ → ℕ → ℕ
-depthInside t depth = cond (isExpression t) (suc depth) 1
+abbrev pub depth_inside : ℕ → ℕ → ℕ
+depth_inside t depth = cond (is_expression t) (suc depth) 1
 
 unfoldable mutual
   -- questions 4 and 5 of a field, then its parts; `depth` is that of an expression which stands here
-  pub askField : (depth place : ℕ) → Field → Asked
-  askField depth place (field t x ps) =
-      ask (not (isExpression t) || leb depth 32) 4 place
-      and_then ask (contentAllowed t x) 5 place
-      and_then askFields (slots_of t) place (depthInside t depth) (place + 3) ps
+  pub ask_field : (depth place : ℕ) → Field → Asked
+  ask_field depth place (field t x ps) =
+      ask (not (is_expression t) || leb depth 32) 4 place
+      and_then ask (content_allowed t x) 5 place
+      and_then ask_fields (slots_of t) place (depth_inside t depth) (place + 3) ps
 
   -- questions 2 and 3 of each field in a row, and 6 behind the last: the place of 6 is the outer field's
-  pub askFields : (slots : List ℕ) → (outer depth place : ℕ) → Fields → Asked
-  askFields slots outer depth place (end []) = ask (complete slots) 6 outer
-  askFields slots outer depth place (end (x ∷ xs)) = fails 2 place
-  askFields slots outer depth place (next f fs) =
+  pub ask_fields : (slots : List ℕ) → (outer depth place : ℕ) → Fields → Asked
+  ask_fields slots outer depth place (end []) = ask (complete slots) 6 outer
+  ask_fields slots outer depth place (end (x ∷ xs)) = fails 2 place
+  ask_fields slots outer depth place (next f fs) =
       elim (advance slots (tag f)) [
         | none ↦ fails 3 place
-        | some left ↦ askField depth place f and_then askFields left outer depth (place + size f) fs
+        | some left ↦ ask_field depth place f and_then ask_fields left outer depth (place + size f) fs
       ]
 
 -- question 7: the first state field whose name an earlier one has
-unfoldable pub askNames : (earlier : List (List ℕ)) → List Placed → Asked
-askNames earlier [] = passes
-askNames earlier (s ∷ ss) =
-    ask (not (any (sameBytes (name_of s.this)) earlier)) 7 s.place
-    and_then askNames (earlier ++ name_of s.this ∷ []) ss
+unfoldable pub ask_names : (earlier : List (List ℕ)) → List Placed → Asked
+ask_names earlier [] = passes
+ask_names earlier (s ∷ ss) =
+    ask (not (any (same_bytes (name_of s.this)) earlier)) 7 s.place
+    and_then ask_names (earlier ++ name_of s.this ∷ []) ss
 
 -- at most n of them: else the place of the next one
 unfoldable pub at_most : (n number : ℕ) → List Placed → Asked
 at_most n number ps = elim (drop n ps) [ [] ↦ passes | p ∷ rest ↦ fails number p.place ]
 
 -- questions 1 to 6
-unfoldable pub askForm : List ℕ → Asked
-askForm file = ask (leb (length file) 32768) 1 0 and_then askFields (slots_of 0) 0 1 0 (fields file)
+unfoldable pub ask_form : List ℕ → Asked
+ask_form file = ask (leb (length file) 32768) 1 0 and_then ask_fields (slots_of 0) 0 1 0 (fields file)
 
 -- questions 1 to 8
-unfoldable pub askFile : List ℕ → Asked
-askFile file =
-    askForm file
-    and_then askNames [] (states (fields file))
+unfoldable pub ask_file : List ℕ → Asked
+ask_file file =
+    ask_form file
+    and_then ask_names [] (states (fields file))
     and_then at_most 64 8 (entries (fields file))

@@ -1,8 +1,8 @@
 // Questions 1 to 6: the length of the file, then each field, outer before inner, front to back.
 ghost use Rattle.std.specs.Prelude.{◌≡◌, ◌+◌, ◌≤◌, ◌<◌, length};
-ghost use Rattle.fields.specs.Field.{fields, fieldWith};
+ghost use Rattle.fields.specs.Field.{fields, field_with};
 ghost use Rattle.grammar.specs.Grammar.{slots_of};
-ghost use Rattle.questions.specs.Questions.{depthInside, askField, askFields, askForm};
+ghost use Rattle.questions.specs.Questions.{depth_inside, ask_field, ask_fields, ask_form};
 ghost use Rattle.questions.specs.Answers.{asked};
 ghost use Rattle.questions.specs.Room.{Room};
 
@@ -21,7 +21,7 @@ pub enum Answer {
 // The depth of an expression inside a field with this tag.
 fn depth_inside(tag: u8, depth: usize) -> usize
     requires { depth ≤ 33 }
-    ensures { (result ≡ depthInside tag depth) × (result ≤ depth + 1) }
+    ensures { (result ≡ depth_inside tag depth) × (result ≤ depth + 1) }
 {
     if is_expression(tag) {
         return depth + 1;
@@ -33,7 +33,7 @@ fn depth_inside(tag: u8, depth: usize) -> usize
 #[cycle(check_field_check_fields)]
 fn check_field(tag: u8, content: &[u8], place: usize, depth: usize) -> Answer
     requires { Room content.now (place + 3) depth }
-    ensures { asked result ≡ askField depth place (fieldWith tag content.now) }
+    ensures { asked result ≡ ask_field depth place (field_with tag content.now) }
 {
     if is_expression(tag) & (32 < depth) {
         return Answer::Refused {
@@ -58,7 +58,7 @@ fn check_field(tag: u8, content: &[u8], place: usize, depth: usize) -> Answer
 #[cycle(check_field_check_fields)]
 fn check_fields(outer: u8, content: &[u8], holder: usize, start: usize, depth: usize) -> Answer
     requires { Room content.now start depth }
-    ensures { asked result ≡ askFields (slots_of outer) holder depth start (fields content.now) }
+    ensures { asked result ≡ ask_fields (slots_of outer) holder depth start (fields content.now) }
 {
     let mut slots = slots_of(outer);
     let mut cursor = Cursor { at: 0 };
@@ -118,7 +118,7 @@ fn check_fields(outer: u8, content: &[u8], holder: usize, start: usize, depth: u
 
 // Questions 1 to 6.
 pub fn check_form(file: &[u8]) -> Answer
-    ensures { asked result ≡ askForm file.now }
+    ensures { asked result ≡ ask_form file.now }
 {
     if 32768 < file.len() {
         return Answer::Refused {

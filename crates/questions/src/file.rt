@@ -2,7 +2,7 @@
 ghost use Rattle.std.specs.Prelude.{◌≡◌};
 ghost use Rattle.fields.specs.Field.{fields};
 ghost use Rattle.model.specs.Model.{entries};
-ghost use Rattle.questions.specs.Questions.{at_most, askFile};
+ghost use Rattle.questions.specs.Questions.{at_most, ask_file};
 ghost use Rattle.questions.specs.Answers.{asked};
 
 use super::check::{Answer, check_form};
@@ -26,7 +26,7 @@ fn check_entries(file: &[u8]) -> Answer
 
 // Any bytes, of any length: all questions pass, or the first "no" with its number and place.
 pub fn check_file(file: &[u8]) -> Answer
-    ensures { asked result ≡ askFile file.now }
+    ensures { asked result ≡ ask_file file.now }
 {
     if let Answer::Refused { number, place } = check_form(file) {
         return Answer::Refused {

@@ -2,12 +2,12 @@
 // name is compared with them only where the table shows its number.
 ghost use Rattle.std.specs.Prelude.{◌≡◌, ◌&&◌, [], eqb};
 ghost use Rattle.laws.specs.Lists.{any};
-ghost use Rattle.laws.specs.Texts.{sameBytes};
+ghost use Rattle.laws.specs.Texts.{same_bytes};
 ghost use Rattle.tags.specs.Tag.{State};
 ghost use Rattle.fields.specs.Field.{tag_of, fields, front};
-ghost use Rattle.model.specs.Model.{name_of, states, stateNames};
-ghost use Rattle.questions.specs.Noted.{nameNumber, joinedNote, shows, with_number, Noted, namesWith};
-ghost use Rattle.questions.specs.Questions.{askNames};
+ghost use Rattle.model.specs.Model.{name_of, states, state_names};
+ghost use Rattle.questions.specs.Noted.{name_number, joined_note, shows, with_number, Noted, names_with};
+ghost use Rattle.questions.specs.Questions.{ask_names};
 ghost use Rattle.questions.specs.Answers.{asked};
 
 use super::check::Answer;
@@ -22,7 +22,7 @@ const SEVERAL: u8 = 255;
 // A number made of a name's bytes: one of 128 notes at one of 16,384 places. Equal names have equal numbers. Bytes of a text
 // differ by less than 137, so names that differ only in their last two bytes have different ones.
 fn name_number(name: &[u8]) -> usize
-    ensures { result ≡ nameNumber name.now }
+    ensures { result ≡ name_number name.now }
 {
     let mut number = 0;
     let mut i = 0;
@@ -35,7 +35,7 @@ fn name_number(name: &[u8]) -> usize
 
 // What a place holds after one more note; 0 is no note.
 fn joined_note(held: u8, note: u8) -> u8
-    ensures { result ≡ joinedNote held note }
+    ensures { result ≡ joined_note held note }
 {
     if (held == 0) | (held == note) {
         return note;
@@ -62,9 +62,9 @@ fn note_number(number: usize, table: &mut [u8]) -> bool
 // Whether the field at the front of s is a state field with a name that a state field before it has. The table shows the names
 // before it, so most names need not be looked for, and then shows this name too.
 fn repeats_name(before: &[u8], s: &[u8], table: &mut [u8]) -> bool
-    requires { Noted (stateNames (fields before.now)) table.old }
-    ensures answer { result ≡ eqb (tag_of s.now) State && any (sameBytes (name_of (front s.now))) (stateNames (fields before.now)) }
-    ensures noted { Noted (namesWith (stateNames (fields before.now)) s.now) table.new }
+    requires { Noted (state_names (fields before.now)) table.old }
+    ensures answer { result ≡ eqb (tag_of s.now) State && any (same_bytes (name_of (front s.now))) (state_names (fields before.now)) }
+    ensures noted { Noted (names_with (state_names (fields before.now)) s.now) table.new }
 {
     if front_tag(s) != STATE {
         return false;
@@ -79,7 +79,7 @@ fn repeats_name(before: &[u8], s: &[u8], table: &mut [u8]) -> bool
 // The first state field whose name an earlier one has: the names before it are those of the bytes before it. What the lent
 // table holds at first makes no difference to the answer.
 fn check_names_in(file: &[u8], table: &mut [u8]) -> Answer
-    ensures { asked result ≡ askNames [] (states (fields file.now)) }
+    ensures { asked result ≡ ask_names [] (states (fields file.now)) }
 {
     let mut t = file;
     let mut at = 0;
@@ -100,7 +100,7 @@ fn check_names_in(file: &[u8], table: &mut [u8]) -> Answer
 // The same with a table of its own. Most files are short, and a short table is soon cleared; the longest file has some
 // thousands of names.
 pub fn check_names(file: &[u8]) -> Answer
-    ensures { asked result ≡ askNames [] (states (fields file.now)) }
+    ensures { asked result ≡ ask_names [] (states (fields file.now)) }
 {
     if file.len() <= 6144 {
         let mut table = [0u8; 2048];

@@ -2,13 +2,13 @@
 use Rattle.std.proofs.Common.{ℕ, ◌≡◌, refl, Bool, true, false, List, [], ◌∷◌, ◌++◌, map}
 use Prim.Native.String.{String}
 use Rattle.laws.specs.Lists.{all, filter}
-use Rattle.laws.specs.Texts.{sameBytes, bytes}
-use Rattle.tags.specs.Tag.{State, Genesis, Set, AddTo, SubtractFrom, String as Text, Checked, Wrapping, Add, Sub, Mul, composite, isAssign, isWrapper}
-use Rattle.fields.specs.Field.{fields, fieldsTo, front, nth, row, fieldsFrom, sizes, encode}
-use Rattle.fields.proofs.Writing.{write, word, name, typeName, integer, identifier}
+use Rattle.laws.specs.Texts.{same_bytes, bytes}
+use Rattle.tags.specs.Tag.{State, Genesis, Set, AddTo, SubtractFrom, String as Text, Checked, Wrapping, Add, Sub, Mul, composite, is_assign, is_wrapper}
+use Rattle.fields.specs.Field.{fields, fields_to, front, nth, row, fields_from, sizes, encode}
+use Rattle.fields.proofs.Writing.{write, word, name, type_name, integer, identifier}
 use Rattle.model.specs.Model.{genesis}
-use Rattle.walking.specs.Walking.{peel, peelFirst, ident}
-use Rattle.raises.specs.Raises.{assigns, value, setsFrom, is_zero, defaults, genesisValues, startsAtZero, raise}
+use Rattle.walking.specs.Walking.{peel, peel_first, ident}
+use Rattle.raises.specs.Raises.{assigns, value, sets_from, is_zero, defaults, genesis_values, starts_at_zero, raise}
 
 abbrev r : List ℕ
 r = identifier "r"
@@ -22,7 +22,7 @@ checked e = write Checked e
 -- Zero
 
 zeros : List (List ℕ) → List Bool
-unfolding all fields fieldsTo nth composite isWrapper peel peelFirst is_zero
+unfolding all fields fields_to nth composite is_wrapper peel peel_first is_zero
 zeros es = map (λ e. is_zero (front e)) es
 
 -- 0, underscores around it, the empty text, two digits, no digit, and a zero inside wrappers
@@ -39,14 +39,14 @@ no_zero = refl
 -- The start
 
 abbrev state : String → List ℕ → List ℕ
-state s default = write State (name s ++ (typeName "Q_Integer" ++ default))
+state s default = write State (name s ++ (type_name "Q_Integer" ++ default))
 
 abbrev first : ℕ → String → List ℕ → List ℕ
 first how target e = write Genesis (write how (identifier target ++ e))
 
 starts : List (List ℕ) → List Bool
-unfolding all filter sameBytes fields fieldsTo nth composite row fieldsFrom isWrapper isAssign genesis ident peel peelFirst assigns is_zero defaults genesisValues startsAtZero
-starts models = map (λ m. startsAtZero (fields m) (bytes "r")) models
+unfolding all filter same_bytes fields fields_to nth composite row fields_from is_wrapper is_assign genesis ident peel peel_first assigns is_zero defaults genesis_values starts_at_zero
+starts models = map (λ m. starts_at_zero (fields m) (bytes "r")) models
 
 -- no default, a zero one, another field's, zero at genesis, another field's value there
 at_zero : starts
@@ -69,24 +69,24 @@ at_one = refl
 abbrev sets : List ℕ → List ℕ
 sets e = write Set (r ++ e)
 
-raisesBy : List (List ℕ) → List (List (List ℕ))
-unfolding sameBytes fields fieldsTo nth composite sizes isWrapper ident peel peelFirst value setsFrom raise encode
-raisesBy ss = map (λ s. map encode (raise (bytes "r") (front s))) ss
+raises_by : List (List ℕ) → List (List (List ℕ))
+unfolding same_bytes fields fields_to nth composite sizes is_wrapper ident peel peel_first value sets_from raise encode
+raises_by ss = map (λ s. map encode (raise (bytes "r") (front s))) ss
 
 -- by v: `r += v`, r = r + v, r = checked(r) + v, r = checked(r + checked(v)), r = v
-by-v : raisesBy
+by-v : raises_by
     (write AddTo (r ++ v) ∷ sets (write Add (r ++ v)) ∷ sets (write Add (checked r ++ v)) ∷ sets (checked (write Add (r ++ checked v))) ∷ sets (checked v) ∷ [])
     ≡ (v ∷ []) ∷ (v ∷ []) ∷ (v ∷ []) ∷ (v ∷ []) ∷ (v ∷ []) ∷ []
-unfolding raisesBy
+unfolding raises_by
 by-v = refl
 
 -- by the whole value: r = v + r, r = v - r, r = r * v
-by_value : raisesBy (sets (write Add (v ++ r)) ∷ sets (write Sub (v ++ r)) ∷ sets (write Mul (r ++ v)) ∷ [])
+by_value : raises_by (sets (write Add (v ++ r)) ∷ sets (write Sub (v ++ r)) ∷ sets (write Mul (r ++ v)) ∷ [])
     ≡ (write Add (v ++ r) ∷ []) ∷ (write Sub (v ++ r) ∷ []) ∷ (write Mul (r ++ v) ∷ []) ∷ []
-unfolding raisesBy
+unfolding raises_by
 by_value = refl
 
 -- not at all: `r -= v`, r = r - v, r = checked(checked(r) - v)
-by-nothing : raisesBy (write SubtractFrom (r ++ v) ∷ sets (write Sub (r ++ v)) ∷ sets (checked (write Sub (checked r ++ v))) ∷ []) ≡ [] ∷ [] ∷ [] ∷ []
-unfolding raisesBy
+by-nothing : raises_by (write SubtractFrom (r ++ v) ∷ sets (write Sub (r ++ v)) ∷ sets (checked (write Sub (checked r ++ v))) ∷ []) ≡ [] ∷ [] ∷ [] ∷ []
+unfolding raises_by
 by-nothing = refl

@@ -1,43 +1,43 @@
 -- The defaults and the genesis values that are asked are those of the state fields and statements that are gone through.
 use Rattle.std.proofs.Common.{ℕ, ◌≡◌, refl, Bool, true, false, cond, ◌&&◌, List, [], ◌∷◌, map}
 use Rattle.laws.specs.Lists.{all, filter}
-use Rattle.laws.specs.Texts.{sameBytes}
+use Rattle.laws.specs.Texts.{same_bytes}
 use Rattle.tags.specs.Tag.{State, Genesis}
-use Rattle.fields.specs.Field.{Field, fields, part, from, fieldsFrom}
+use Rattle.fields.specs.Field.{Field, fields, part, from, fields_from}
 use Rattle.model.specs.Model.{name_of, genesis}
 use Rattle.walking.specs.Walking.{present}
-use Rattle.raises.specs.Raises.{assigns, is_zero, defaults, genesisValues}
-use Rattle.raises.specs.Raising.{defaultPasses, genesisPasses}
+use Rattle.raises.specs.Raises.{assigns, is_zero, defaults, genesis_values}
+use Rattle.raises.specs.Raising.{default_passes, genesis_passes}
 use Rattle.raises.proofs.Passing.{Passing, passing-all}
 
 module _ (r : List ℕ) where
-  default-each : (l : List Field) → all (defaultPasses r) l ≡ all is_zero (filter present (map (part 2) (filter (λ s. sameBytes (name_of s) r) l)))
-  unfolding all filter defaultPasses
+  default-each : (l : List Field) → all (default_passes r) l ≡ all is_zero (filter present (map (part 2) (filter (λ s. same_bytes (name_of s) r) l)))
+  unfolding all filter default_passes
   default-each [] = refl
-  default-each (s ∷ l) = go (sameBytes (name_of s) r) (present (part 2 s)) refl (default-each l)
+  default-each (s ∷ l) = go (same_bytes (name_of s) r) (present (part 2 s)) refl (default-each l)
     where
-      go : (j k : Bool) → present (part 2 s) ≡ k → all (defaultPasses r) l ≡ all is_zero (filter present (map (part 2) (filter (λ s. sameBytes (name_of s) r) l))) →
-          cond (j && k) (is_zero (part 2 s)) true && all (defaultPasses r) l
-          ≡ all is_zero (filter present (map (part 2) (cond j (s ∷ filter (λ s. sameBytes (name_of s) r) l) (filter (λ s. sameBytes (name_of s) r) l))))
+      go : (j k : Bool) → present (part 2 s) ≡ k → all (default_passes r) l ≡ all is_zero (filter present (map (part 2) (filter (λ s. same_bytes (name_of s) r) l))) →
+          cond (j && k) (is_zero (part 2 s)) true && all (default_passes r) l
+          ≡ all is_zero (filter present (map (part 2) (cond j (s ∷ filter (λ s. same_bytes (name_of s) r) l) (filter (λ s. same_bytes (name_of s) r) l))))
       go true true p e = rw (p, e)
       go true false p e = rw (p, e)
       go false k p e = e
 
-  genesis-each : (l : List Field) → all (genesisPasses r) l ≡ all is_zero (map (part 1) (filter (assigns r) (map (part 0) l)))
-  unfolding all filter genesisPasses
+  genesis-each : (l : List Field) → all (genesis_passes r) l ≡ all is_zero (map (part 1) (filter (assigns r) (map (part 0) l)))
+  unfolding all filter genesis_passes
   genesis-each [] = refl
   genesis-each (s ∷ l) = go (assigns r (part 0 s)) (genesis-each l)
     where
-      go : (j : Bool) → all (genesisPasses r) l ≡ all is_zero (map (part 1) (filter (assigns r) (map (part 0) l))) →
-          cond j (is_zero (part 1 (part 0 s))) true && all (genesisPasses r) l
+      go : (j : Bool) → all (genesis_passes r) l ≡ all is_zero (map (part 1) (filter (assigns r) (map (part 0) l))) →
+          cond j (is_zero (part 1 (part 0 s))) true && all (genesis_passes r) l
           ≡ all is_zero (map (part 1) (cond j (part 0 s ∷ filter (assigns r) (map (part 0) l)) (filter (assigns r) (map (part 0) l))))
       go true e = rw e
       go false e = e
 
-  pub defaults-all : (s t : List ℕ) → t ≡ from State State s → Passing State State (defaultPasses r) t (all is_zero (defaults (fields s) r))
+  pub defaults-all : (s t : List ℕ) → t ≡ from State State s → Passing State State (default_passes r) t (all is_zero (defaults (fields s) r))
   unfolding defaults
-  defaults-all s t e = passing-all State State (defaultPasses r) s t _ e (default-each (fieldsFrom State State (fields s)))
+  defaults-all s t e = passing-all State State (default_passes r) s t _ e (default-each (fields_from State State (fields s)))
 
-  pub genesis-all : (s t : List ℕ) → t ≡ from Genesis Genesis s → Passing Genesis Genesis (genesisPasses r) t (all is_zero (genesisValues (fields s) r))
-  unfolding genesisValues genesis
-  genesis-all s t e = passing-all Genesis Genesis (genesisPasses r) s t _ e (genesis-each (fieldsFrom Genesis Genesis (fields s)))
+  pub genesis-all : (s t : List ℕ) → t ≡ from Genesis Genesis s → Passing Genesis Genesis (genesis_passes r) t (all is_zero (genesis_values (fields s) r))
+  unfolding genesis_values genesis
+  genesis-all s t e = passing-all Genesis Genesis (genesis_passes r) s t _ e (genesis-each (fields_from Genesis Genesis (fields s)))

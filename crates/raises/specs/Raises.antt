@@ -2,9 +2,9 @@
 use Rattle.std.specs.Prelude.{ℕ, Bool, cond, ◌&&◌, ◌||◌, eqb}
 use mathlib.Core.List.{List, [], ◌∷◌, map, flat_map}
 use Rattle.laws.specs.Lists.{all, filter}
-use Rattle.laws.specs.Texts.{sameBytes}
-use Rattle.tags.specs.Tag.{State, Set, SubtractFrom, Integer, Add, Sub, isAssign}
-use Rattle.fields.specs.Field.{Field, Fields, tag, text, part, fieldsFrom}
+use Rattle.laws.specs.Texts.{same_bytes}
+use Rattle.tags.specs.Tag.{State, Set, SubtractFrom, Integer, Add, Sub, is_assign}
+use Rattle.fields.specs.Field.{Field, Fields, tag, text, part, fields_from}
 use Rattle.model.specs.Model.{name_of, genesis, body}
 use Rattle.walking.specs.Walking.{peel, present, ident}
 
@@ -12,23 +12,23 @@ use Rattle.walking.specs.Walking.{peel, present, ident}
 
 -- the defaults of the state fields named r: none where there is no default
 unfoldable pub defaults : Fields → List ℕ → List Field
-defaults model r = filter present (map (part 2) (filter (λ s. sameBytes (name_of s) r) (fieldsFrom State State model)))
+defaults model r = filter present (map (part 2) (filter (λ s. same_bytes (name_of s) r) (fields_from State State model)))
 
 -- a statement that sets, adds to or subtracts from r
 unfoldable pub assigns : List ℕ → Field → Bool
-assigns r s = isAssign (tag s) && sameBytes (ident (part 0 s)) r
+assigns r s = is_assign (tag s) && same_bytes (ident (part 0 s)) r
 
 -- the value of every genesis assignment to r: set, add or subtract
-unfoldable pub genesisValues : Fields → List ℕ → List Field
-genesisValues model r = map (part 1) (filter (assigns r) (genesis model))
+unfoldable pub genesis_values : Fields → List ℕ → List Field
+genesis_values model r = map (part 1) (filter (assigns r) (genesis model))
 
 -- an integer of 0 and _ only, peeled; the empty text passes
 unfoldable pub is_zero : Field → Bool
-is_zero v = eqb (tag (peel v)) Integer && all (λ c. eqb c 0x30 || eqb c 0x5F) (text (peel v))
+is_zero v = eqb (tag (peel v)) Integer && all (λ c. eqb c 0x30 || eqb c 0x5_f) (text (peel v))
 
 -- r starts at zero
-unfoldable pub startsAtZero : Fields → List ℕ → Bool
-startsAtZero model r = all is_zero (defaults model r) && all is_zero (genesisValues model r)
+unfoldable pub starts_at_zero : Fields → List ℕ → Bool
+starts_at_zero model r = all is_zero (defaults model r) && all is_zero (genesis_values model r)
 
 -- Raises
 
@@ -37,15 +37,15 @@ unfoldable pub value : Field → Field
 value s = peel (part 1 s)
 
 -- r set to r plus, or r minus, something: the value and its first side peeled
-unfoldable pub setsFrom : ℕ → List ℕ → Field → Bool
-setsFrom operator r s = eqb (tag s) Set && eqb (tag (value s)) operator && sameBytes (ident (peel (part 0 (value s)))) r
+unfoldable pub sets_from : ℕ → List ℕ → Field → Bool
+sets_from operator r s = eqb (tag s) Set && eqb (tag (value s)) operator && same_bytes (ident (peel (part 0 (value s)))) r
 
 -- what an assignment to r raises it by, peeled: any subtraction from r is no raise, r set to r plus v raises by v, `r += v`
 -- by v, and any other set by its whole value
 unfoldable pub raise : List ℕ → Field → List Field
 raise r s =
-    cond (eqb (tag s) SubtractFrom || setsFrom Sub r s) []
-    (cond (setsFrom Add r s) (peel (part 1 (value s)) ∷ []) (value s ∷ []))
+    cond (eqb (tag s) SubtractFrom || sets_from Sub r s) []
+    (cond (sets_from Add r s) (peel (part 1 (value s)) ∷ []) (value s ∷ []))
 
 -- the raises of r in an entry
 unfoldable pub raises : List ℕ → Field → List Field

@@ -2,7 +2,7 @@
 // The statements that set, add to or subtract from a state field.
 ghost use Rattle.std.specs.Prelude.{◌≡◌};
 ghost use Rattle.fields.specs.Field.{front};
-ghost use Rattle.raises.specs.Raises.{assigns, value, setsFrom};
+ghost use Rattle.raises.specs.Raises.{assigns, value, sets_from};
 
 use fields::bytes::same_bytes;
 use fields::front::{part_of, tag_of};
@@ -30,7 +30,7 @@ pub fn value_of(s: &[u8]) -> &[u8]
 // Whether it sets the state field to itself and something: the operator is the one between them, and its first side is
 // peeled.
 pub fn sets_from(operator: u8, name: &[u8], s: &[u8]) -> bool
-    ensures { result ≡ setsFrom operator name.now (front s.now) }
+    ensures { result ≡ sets_from operator name.now (front s.now) }
 {
     if tag_of(s) != SET {
         return false;

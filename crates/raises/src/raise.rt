@@ -3,8 +3,8 @@
 ghost use Rattle.std.specs.Prelude.{◌≡◌, ◌-◌, ◌≤◌, length, drop};
 ghost use Rattle.laws.specs.Lists.{filter};
 ghost use Rattle.tags.specs.Tag.{Entry, Guard, ExpressionStatement};
-ghost use Rattle.fields.specs.Field.{fields, fieldsFrom, front, after};
-ghost use Rattle.raises.specs.Raising.{isRaise, raisedBy, raising, raisesFrom, raisingFrom};
+ghost use Rattle.fields.specs.Field.{fields, fields_from, front, after};
+ghost use Rattle.raises.specs.Raising.{is_raise, raised_by, raising, raises_from, raising_from};
 
 use super::assignment::{assigns, sets_from, value_of};
 use fields::front::{after_front, first_from, is_whole, part_of, parts_of, tag_of};
@@ -14,7 +14,7 @@ use walking::peel::peel;
 // Whether the statement at the front of s raises the state field of that name: any subtraction from it is no raise. The tag
 // tells that soonest, so it is asked before the names are compared.
 fn is_raise(name: &[u8], s: &[u8]) -> bool
-    ensures { result ≡ isRaise name.now (front s.now) }
+    ensures { result ≡ is_raise name.now (front s.now) }
 {
     if tag_of(s) == SUBTRACT_FROM {
         return false;
@@ -27,7 +27,7 @@ fn is_raise(name: &[u8], s: &[u8]) -> bool
 
 // What it raises it by: v where it sets the field to itself plus v, else the whole value.
 pub fn raised_by<'a>(name: &[u8], s: &'a [u8]) -> &'a [u8]
-    ensures { front result.now ≡ raisedBy name.now (front s.now) }
+    ensures { front result.now ≡ raised_by name.now (front s.now) }
 {
     let value = value_of(s);
     if sets_from(ADD, name, s) {
@@ -39,7 +39,7 @@ pub fn raised_by<'a>(name: &[u8], s: &'a [u8]) -> &'a [u8]
 // s from its first statement on that raises the state field; no whole field where there is none. The others are passed over by
 // their tags: only what sets or adds can raise.
 pub fn first_raise<'a>(s: &'a [u8], name: &[u8]) -> &'a [u8]
-    ensures found { filter (isRaise name.now) (fieldsFrom Guard ExpressionStatement (fields s.now)) ≡ raisesFrom name.now result.now }
+    ensures found { filter (is_raise name.now) (fields_from Guard ExpressionStatement (fields s.now)) ≡ raises_from name.now result.now }
     ensures within { length result.now ≤ length s.now }
 {
     let mut t = first_from(s, SET, ADD_TO);
@@ -55,7 +55,7 @@ pub fn first_raise<'a>(s: &'a [u8], name: &[u8]) -> &'a [u8]
 
 // The same behind the statement at the front of s.
 pub fn next_raise<'a>(s: &'a [u8], name: &[u8]) -> &'a [u8]
-    ensures found { filter (isRaise name.now) (fieldsFrom Guard ExpressionStatement (fields (after s.now))) ≡ raisesFrom name.now result.now }
+    ensures found { filter (is_raise name.now) (fields_from Guard ExpressionStatement (fields (after s.now))) ≡ raises_from name.now result.now }
     ensures within { length result.now ≤ length (after s.now) }
 {
     first_raise(after_front(s), name)
@@ -70,7 +70,7 @@ fn has_raise(s: &[u8], name: &[u8]) -> bool
 
 // s from its first entry on that raises the state field; no whole field where there is none.
 pub fn first_raising<'a>(s: &'a [u8], name: &[u8]) -> &'a [u8]
-    ensures found { filter (raising name.now) (fieldsFrom Entry Entry (fields s.now)) ≡ raisingFrom name.now result.now }
+    ensures found { filter (raising name.now) (fields_from Entry Entry (fields s.now)) ≡ raising_from name.now result.now }
     ensures within { length result.now ≤ length s.now }
     ensures tail { result.now ≡ drop (length s.now - length result.now) s.now }
 {

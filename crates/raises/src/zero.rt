@@ -3,8 +3,8 @@
 ghost use Rattle.std.specs.Prelude.{◌≡◌};
 ghost use Rattle.laws.specs.Lists.{all};
 ghost use Rattle.fields.specs.Field.{fields, front};
-ghost use Rattle.raises.specs.Raises.{is_zero, defaults, genesisValues, startsAtZero};
-ghost use Rattle.raises.specs.Raising.{zeroDigit, zeroDigits, defaultPasses, genesisPasses};
+ghost use Rattle.raises.specs.Raises.{is_zero, defaults, genesis_values, starts_at_zero};
+ghost use Rattle.raises.specs.Raising.{zero_digit, zero_digits, default_passes, genesis_passes};
 
 use super::assignment::assigns;
 use fields::bytes::same_bytes;
@@ -15,14 +15,14 @@ use walking::peel::peel;
 use walking::shape::is_present;
 
 fn is_zero_digit(c: u8) -> bool
-    ensures { result ≡ zeroDigit c }
+    ensures { result ≡ zero_digit c }
 {
     (c == b'0') | (c == b'_')
 }
 
 // Whether a text has no other bytes than 0 and _.
 fn has_zero_digits(s: &[u8]) -> bool
-    ensures { result ≡ zeroDigits s.now }
+    ensures { result ≡ zero_digits s.now }
 {
     let mut i = 0;
     while i < s.len() {
@@ -47,7 +47,7 @@ pub fn is_zero(s: &[u8]) -> bool
 
 // Whether the state field at the front of s has another name, no default or a zero one.
 fn default_passes(name: &[u8], s: &[u8]) -> bool
-    ensures { result ≡ defaultPasses name.now (front s.now) }
+    ensures { result ≡ default_passes name.now (front s.now) }
 {
     if !same_bytes(name_of(s), name) {
         return true;
@@ -76,7 +76,7 @@ fn default_is_zero(file: &[u8], name: &[u8]) -> bool
 
 // Whether the genesis statement at the front of s assigns to another target, or zero.
 fn genesis_passes(name: &[u8], s: &[u8]) -> bool
-    ensures { result ≡ genesisPasses name.now (front s.now) }
+    ensures { result ≡ genesis_passes name.now (front s.now) }
 {
     let statement = part_of(s, 0);
     if !assigns(name, statement) {
@@ -87,7 +87,7 @@ fn genesis_passes(name: &[u8], s: &[u8]) -> bool
 
 // Whether the value of every genesis assignment to the state field is zero.
 fn genesis_is_zero(file: &[u8], name: &[u8]) -> bool
-    ensures { result ≡ all is_zero (genesisValues (fields file.now) name.now) }
+    ensures { result ≡ all is_zero (genesis_values (fields file.now) name.now) }
 {
     let mut t = first_from(file, GENESIS, GENESIS);
     while is_whole(t) {
@@ -102,7 +102,7 @@ fn genesis_is_zero(file: &[u8], name: &[u8]) -> bool
 
 // Whether the state field of that name starts at zero.
 pub fn starts_at_zero(file: &[u8], name: &[u8]) -> bool
-    ensures { result ≡ startsAtZero (fields file.now) name.now }
+    ensures { result ≡ starts_at_zero (fields file.now) name.now }
 {
     if !default_is_zero(file, name) {
         return false;

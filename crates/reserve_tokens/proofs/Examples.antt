@@ -3,18 +3,18 @@ use Rattle.std.proofs.Common.{ℕ, ◌≡◌, refl, List, [], ◌∷◌, ◌++�
 use Prim.Native.String.{String}
 use mathlib.Core.List.{flat_map}
 use Rattle.laws.specs.Lists.{any, all, filter, find}
-use Rattle.laws.specs.Texts.{sameBytes, bytes, known}
-use Rattle.tags.specs.Tag.{State, Entry, Parameter, Limits, Guard, AddTo, SubtractFrom, ExpressionStatement, Caller, InAsset, Member, Call, Checked, And, Eq, Ne, composite, isAssign, isExpression, isStatement, isWrapper}
-use Rattle.fields.specs.Field.{fields, fieldsTo, nth, row, fieldsFrom, size, sizes, placed, placedFrom}
-use Rattle.fields.proofs.Writing.{write, name, typeName, integer, identifier}
+use Rattle.laws.specs.Texts.{same_bytes, bytes, known}
+use Rattle.tags.specs.Tag.{State, Entry, Parameter, Limits, Guard, AddTo, SubtractFrom, ExpressionStatement, Caller, InAsset, Member, Call, Checked, And, Eq, Ne, composite, is_assign, is_expression, is_statement, is_wrapper}
+use Rattle.fields.specs.Field.{fields, fields_to, nth, row, fields_from, size, sizes, placed, placed_from}
+use Rattle.fields.proofs.Writing.{write, name, type_name, integer, identifier}
 use Rattle.model.specs.Model.{genesis, entries, params, body}
-use Rattle.walking.specs.Walking.{peel, peelFirst, walk, walkParts, stmtExprs, bodyExprs, exprs, guards, ident, method, receiver, isDebit, assetAmountBacker, isAssetParameter, assetParams, debits}
-use Rattle.equality.specs.Equality.{exprEq, partsEq, strip, sameText}
-use Rattle.conditions.specs.Conditions.{splitAnd, splitEach, splitFirst, negated, negatedEach, negatedFirst, conditionsOf, requiredConditions, opposite, operator}
-use Rattle.tokens.specs.Tokens.{single, besideInAsset, tokenNamed, tokensNamed, isInflow, isCredit, isFunding}
-use Rattle.fundings.specs.FundingTokens.{funds, ledgerFundingTokens, fundingToken}
-use Rattle.raises.specs.Raises.{assigns, value, setsFrom, is_zero, defaults, genesisValues, startsAtZero, raise, raises}
-use Rattle.reserve_tokens.specs.ReserveTokens.{credited, guardToken, guardTokens, only, debitToken, raiseToken, raiseTokens, reserveToken}
+use Rattle.walking.specs.Walking.{peel, peel_first, walk, walk_parts, stmt_exprs, body_exprs, exprs, guards, ident, method, receiver, is_debit, asset_amount_backer, is_asset_parameter, asset_params, debits}
+use Rattle.equality.specs.Equality.{expr_eq, parts_eq, strip, same_text}
+use Rattle.conditions.specs.Conditions.{split_and, split_each, split_first, negated, negated_each, negated_first, conditions_of, required_conditions, opposite, operator}
+use Rattle.tokens.specs.Tokens.{single, beside_in_asset, token_named, tokens_named, is_inflow, is_credit, is_funding}
+use Rattle.fundings.specs.FundingTokens.{funds, ledger_funding_tokens, funding_token}
+use Rattle.raises.specs.Raises.{assigns, value, sets_from, is_zero, defaults, genesis_values, starts_at_zero, raise, raises}
+use Rattle.reserve_tokens.specs.ReserveTokens.{credited, guard_token, guard_tokens, only, debit_token, raise_token, raise_tokens, reserve_token}
 
 abbrev r : List ℕ
 r = identifier "r"
@@ -26,7 +26,7 @@ abbrev checked : List ℕ → List ℕ
 checked e = write Checked e
 
 abbrev state : String → List ℕ → List ℕ
-state s default = write State (name s ++ (typeName "Q_Integer" ++ default))
+state s default = write State (name s ++ (type_name "Q_Integer" ++ default))
 
 -- in-asset == t
 abbrev holds : String → List ℕ
@@ -37,7 +37,7 @@ entry parts = write Entry (name "f" ++ parts)
 
 -- an entry with an asset parameter a
 abbrev taking : List ℕ → List ℕ
-taking parts = entry (write Parameter (name "a" ++ typeName "Q_Asset") ++ parts)
+taking parts = entry (write Parameter (name "a" ++ type_name "Q_Asset") ++ parts)
 
 abbrev guard : List ℕ → List ℕ
 guard e = write Guard e
@@ -58,8 +58,8 @@ abbrev funding : String → String → List ℕ
 funding m t = taking (write Limits (holds t) ++ calls m "credit" amount)
 
 held : List (List ℕ) → List (List ℕ)
-unfolding any all filter find sameBytes known fields fieldsTo nth composite size sizes placed placedFrom row fieldsFrom flat_map isAssign isExpression isStatement isWrapper genesis entries params body peel peelFirst walk walkParts stmtExprs bodyExprs exprs guards ident method receiver isDebit assetAmountBacker isAssetParameter assetParams debits exprEq partsEq strip sameText splitAnd splitEach splitFirst negated negatedEach negatedFirst conditionsOf requiredConditions opposite operator single besideInAsset tokenNamed tokensNamed isInflow isCredit isFunding funds ledgerFundingTokens fundingToken assigns value setsFrom is_zero defaults genesisValues startsAtZero raise raises credited guardToken guardTokens only debitToken raiseToken raiseTokens reserveToken
-held models = map (λ m. reserveToken (fields m) (bytes "r")) models
+unfolding any all filter find same_bytes known fields fields_to nth composite size sizes placed placed_from row fields_from flat_map is_assign is_expression is_statement is_wrapper genesis entries params body peel peel_first walk walk_parts stmt_exprs body_exprs exprs guards ident method receiver is_debit asset_amount_backer is_asset_parameter asset_params debits expr_eq parts_eq strip same_text split_and split_each split_first negated negated_each negated_first conditions_of required_conditions opposite operator single beside_in_asset token_named tokens_named is_inflow is_credit is_funding funds ledger_funding_tokens funding_token assigns value sets_from is_zero defaults genesis_values starts_at_zero raise raises credited guard_token guard_tokens only debit_token raise_token raise_tokens reserve_token
+held models = map (λ m. reserve_token (fields m) (bytes "r")) models
 
 -- a raise by a.amount: one guard, a wrapped guard with its sides swapped, another guard beside it, a lowering beside it, twice in
 -- two entries, another amount credited

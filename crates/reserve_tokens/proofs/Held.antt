@@ -2,10 +2,10 @@
 -- same changes nothing.
 use Rattle.std.proofs.Common.{ℕ, ◌≤◌, ◌≡◌, refl, sym, ◌∙◌, Bool, true, false, cond, not, List, [], ◌∷◌, arith, ltb-true, ltb-false, ltb, length}
 use Rattle.laws.specs.Lists.{all}
-use Rattle.laws.specs.Texts.{known, sameBytes}
+use Rattle.laws.specs.Texts.{known, same_bytes}
 use Rattle.laws.proofs.Texts.{bytes-equal, bytes_same, unknown, is_known, same-unknown}
 use Rattle.tokens.specs.Tokens.{single, differ}
-use Rattle.tokens.specs.Numbers.{tokenOf}
+use Rattle.tokens.specs.Numbers.{token_of}
 use Rattle.tokens.proofs.Joining.{token-none, token-inside}
 use Rattle.reserve_tokens.specs.Reserving.{Found, bars}
 use Rattle.reserve_tokens.specs.Agreeing.{held}
@@ -30,14 +30,14 @@ module _ (a t : List ℕ) (ts : List (List ℕ)) where
 
       go : (i : Bool) → known a ≡ i → (t : List ℕ) → known t ≡ false → [] ≡ held a (t ∷ ts)
       go true p t q = rw (p, same-unknown a t p q)
-      go false p [] q = rw p (none (all (sameBytes []) ts))
+      go false p [] q = rw p (none (all (same_bytes []) ts))
       go false p (x ∷ xs) q = cc
 
   pub held-barred : bars a t ≡ true → [] ≡ held a (t ∷ ts)
   unfolding bars differ held single all
-  held-barred e = go (known t) (known a) (sameBytes a t) refl refl refl
+  held-barred e = go (known t) (known a) (same_bytes a t) refl refl refl
     where
-      go : (i j k : Bool) → known t ≡ i → known a ≡ j → sameBytes a t ≡ k → [] ≡ held a (t ∷ ts)
+      go : (i j k : Bool) → known t ≡ i → known a ≡ j → same_bytes a t ≡ k → [] ≡ held a (t ∷ ts)
       go false j k p q r = unknown-held p
       go true true true p q r = cc
       go true true false p q r = rw (q, r)
@@ -45,9 +45,9 @@ module _ (a t : List ℕ) (ts : List (List ℕ)) where
 
   pub held_on : bars a t ≡ false → held t ts ≡ held a (t ∷ ts)
   unfolding bars differ held single all
-  held_on e = go (known t) (known a) (sameBytes a t) refl refl refl
+  held_on e = go (known t) (known a) (same_bytes a t) refl refl refl
     where
-      go : (i j k : Bool) → known t ≡ i → known a ≡ j → sameBytes a t ≡ k → held t ts ≡ held a (t ∷ ts)
+      go : (i j k : Bool) → known t ≡ i → known a ≡ j → same_bytes a t ≡ k → held t ts ≡ held a (t ∷ ts)
       go false j k p q r = cc
       go true true true p q r = rw (p, q, r, ← bytes-equal a t r)
       go true true false p q r = cc
@@ -76,7 +76,7 @@ bars-itself t = go (known t) refl
 
 -- The numbers of tokens
 
-pub token-none-of : (file : List ℕ) → tokenOf file 1 ≡ []
+pub token-none-of : (file : List ℕ) → token_of file 1 ≡ []
 token-none-of file = sym (token-none file 1 (omega arith))
 
 pub found_none : (file : List ℕ) → Found file 1
@@ -84,7 +84,7 @@ unfolding known
 found_none file = record { some = omega arith; small = omega arith; unnamed = rw (token-none-of file) }
 
 -- one with a known token
-pub found-known : (file : List ℕ) → length file ≤ 32768 → (k : ℕ) → known (tokenOf file k) ≡ true → Found file k
+pub found-known : (file : List ℕ) → length file ≤ 32768 → (k : ℕ) → known (token_of file k) ≡ true → Found file k
 unfolding known
 found-known file h k e = go (ltb k 2) refl
   where
@@ -99,13 +99,13 @@ found-known file h k e = go (ltb k 2) refl
 
 -- what the code tests
 module _ (file : List ℕ) (found k : ℕ) where
-  pub unknown-bars : (t : List ℕ) → t ≡ tokenOf file k → length t ≡ 0 → true ≡ bars (tokenOf file found) (tokenOf file k)
+  pub unknown-bars : (t : List ℕ) → t ≡ token_of file k → length t ≡ 0 → true ≡ bars (token_of file found) (token_of file k)
   unfolding bars
   unknown-bars t e h = rw (← e, unknown t h)
 
-  pub same_number : Found file found → k ≡ found → ltb k 2 ≡ bars (tokenOf file found) (tokenOf file k)
-  same_number i e = rw e (sym i.unnamed ∙ bars-itself (tokenOf file found))
+  pub same_number : Found file found → k ≡ found → ltb k 2 ≡ bars (token_of file found) (token_of file k)
+  same_number i e = rw e (sym i.unnamed ∙ bars-itself (token_of file found))
 
-  pub number-bars : (t : List ℕ) → t ≡ tokenOf file k → (length t ≡ 0 → ⊥) → (x : List ℕ) → x ≡ tokenOf file found → (b : Bool) → b ≡ differ x t →
-      b ≡ bars (tokenOf file found) (tokenOf file k)
+  pub number-bars : (t : List ℕ) → t ≡ token_of file k → (length t ≡ 0 → ⊥) → (x : List ℕ) → x ≡ token_of file found → (b : Bool) → b ≡ differ x t →
+      b ≡ bars (token_of file found) (token_of file k)
   number-bars t e h x f b d = rw (← e, ← f) (known-bars x t h b d)

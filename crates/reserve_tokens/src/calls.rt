@@ -4,9 +4,9 @@ ghost use Rattle.std.specs.Prelude.{◌≡◌, drop};
 ghost use Rattle.fields.specs.Table.{fields_at};
 ghost use Rattle.laws.specs.Lists.{any};
 ghost use Rattle.fields.specs.Field.{front};
-ghost use Rattle.walking.specs.Walking.{isDebit};
-ghost use Rattle.tokens.specs.Tokens.{isCredit};
-ghost use Rattle.reserve_tokens.specs.Reserving.{withAmount, first_of};
+ghost use Rattle.walking.specs.Walking.{is_debit};
+ghost use Rattle.tokens.specs.Tokens.{is_credit};
+ghost use Rattle.reserve_tokens.specs.Reserving.{with_amount, first_of};
 
 use equality::expr_eq;
 use fields::bytes::skip;
@@ -19,7 +19,7 @@ use walking::shape::is_debit;
 // Whether the call at the front of s is a credit, set or insert whose second argument, peeled, is the amount. The amount is
 // compared first: that takes less time than to read the shape of a call, and few calls have it.
 fn is_crediting(amount: &[u8], s: &[u8]) -> bool
-    ensures { result ≡ withAmount isCredit (front amount.now) (front s.now) }
+    ensures { result ≡ with_amount is_credit (front amount.now) (front s.now) }
 {
     if !expr_eq(peel(part_of(s, 2)), amount) {
         return false;
@@ -29,7 +29,7 @@ fn is_crediting(amount: &[u8], s: &[u8]) -> bool
 
 // Whether it is a caller debit of the amount.
 fn is_debiting(amount: &[u8], s: &[u8]) -> bool
-    ensures { result ≡ withAmount isDebit (front amount.now) (front s.now) }
+    ensures { result ≡ with_amount is_debit (front amount.now) (front s.now) }
 {
     if !expr_eq(peel(part_of(s, 2)), amount) {
         return false;
@@ -39,7 +39,7 @@ fn is_debiting(amount: &[u8], s: &[u8]) -> bool
 
 // Whether one of the calls credits, sets or inserts the amount.
 pub fn is_credited(file: &[u8], amount: &[u8], calls: &[u16]) -> bool
-    ensures { result ≡ any (withAmount isCredit (front amount.now)) (fields_at file.now calls.now) }
+    ensures { result ≡ any (with_amount is_credit (front amount.now)) (fields_at file.now calls.now) }
 {
     let mut i = 0;
     while i < calls.len() {
@@ -53,7 +53,7 @@ pub fn is_credited(file: &[u8], amount: &[u8], calls: &[u16]) -> bool
 
 // The place of the first of them that is a caller debit of the amount; the end of the file where none is.
 pub fn first_debit(file: &[u8], amount: &[u8], calls: &[u16]) -> usize
-    ensures { front (drop result file.now) ≡ first_of (withAmount isDebit (front amount.now)) (fields_at file.now calls.now) }
+    ensures { front (drop result file.now) ≡ first_of (with_amount is_debit (front amount.now)) (fields_at file.now calls.now) }
 {
     let mut i = 0;
     while i < calls.len() {

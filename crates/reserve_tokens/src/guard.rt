@@ -2,8 +2,8 @@
 // The token that the guards of an entry's body name. Clauses play no part.
 ghost use Rattle.std.specs.Prelude.{◌≡◌, ◌≤◌, length, drop};
 ghost use Rattle.fields.specs.Field.{front, part};
-ghost use Rattle.tokens.specs.Numbers.{tokenOf, Standing};
-ghost use Rattle.reserve_tokens.specs.ReserveTokens.{guardToken, guardTokens, only};
+ghost use Rattle.tokens.specs.Numbers.{token_of, Standing};
+ghost use Rattle.reserve_tokens.specs.ReserveTokens.{guard_token, guard_tokens, only};
 ghost use Rattle.reserve_tokens.specs.Reserving.{Named};
 
 use fields::bytes::skip;
@@ -17,7 +17,7 @@ use walking::peel::peel;
 // an identifier; else 0. The expression stands behind the guard's three-byte head.
 fn guard_number(file: &[u8], at: usize) -> usize
     requires { length file.now ≤ 32768 }
-    ensures reads { tokenOf file.now result ≡ guardToken (part 0 (front (drop at file.now))) }
+    ensures reads { token_of file.now result ≡ guard_token (part 0 (front (drop at file.now))) }
     ensures named { Named file.now result }
 {
     let guard = skip(file, at);
@@ -37,7 +37,7 @@ fn guard_number(file: &[u8], at: usize) -> usize
 // The number of the token that exactly one guard of the entry at a place names; 0 where none does, or a second.
 pub fn only_guard_number(file: &[u8], place: usize) -> usize
     requires { Standing file.now place 0 }
-    ensures { tokenOf file.now result ≡ only (guardTokens (front (drop place file.now))) }
+    ensures { token_of file.now result ≡ only (guard_tokens (front (drop place file.now))) }
 {
     let parts = parts_of(skip(file, place));
     let mut found = 0;

@@ -5,13 +5,13 @@ ghost use Rattle.std.specs.Prelude.{◌≡◌, cond, [], ◌∷◌, ◌≤◌, l
 ghost use Rattle.fields.specs.Table.{fields_at};
 ghost use Rattle.laws.specs.Lists.{any};
 ghost use Rattle.fields.specs.Field.{fields, front};
-ghost use Rattle.tokens.specs.Tokens.{isInflow, isCredit};
-ghost use Rattle.tokens.specs.Numbers.{tokenOf};
-ghost use Rattle.fundings.specs.FundingTokens.{fundingToken};
+ghost use Rattle.tokens.specs.Tokens.{is_inflow, is_credit};
+ghost use Rattle.tokens.specs.Numbers.{token_of};
+ghost use Rattle.fundings.specs.FundingTokens.{funding_token};
 ghost use Rattle.fundings.specs.Funded.{Funded};
-ghost use Rattle.reserve_tokens.specs.ReserveTokens.{raiseToken};
-ghost use Rattle.reserve_tokens.specs.Reserving.{withAmount, nameless, mapToken, Found, bars};
-ghost use Rattle.reserve_tokens.specs.Agreeing.{agreedWith, Agrees, Agreeing, RaisesOf};
+ghost use Rattle.reserve_tokens.specs.ReserveTokens.{raise_token};
+ghost use Rattle.reserve_tokens.specs.Reserving.{with_amount, nameless, map_token, Found, bars};
+ghost use Rattle.reserve_tokens.specs.Agreeing.{agreed_with, Agrees, Agreeing, RaisesOf};
 
 use super::calls::{first_debit, is_credited};
 use fields::bytes::{same_bytes, skip};
@@ -52,7 +52,7 @@ pub fn has_unnamed(entry: &[u8]) -> bool
 // gone through, once it is known of the entry whether one of them has no name.
 fn comes_in(entry: &[u8], amount: &[u8], unnamed: bool) -> bool
     requires { unnamed ≡ nameless (front entry.now) }
-    ensures { result ≡ isInflow (front entry.now) (front amount.now) }
+    ensures { result ≡ is_inflow (front entry.now) (front amount.now) }
 {
     let backer = asset_amount_backer(amount);
     if backer.len() == 0 {
@@ -63,7 +63,7 @@ fn comes_in(entry: &[u8], amount: &[u8], unnamed: bool) -> bool
 
 // The number of the token of a raise by `p.amount`: that of the guard, and no call may credit the amount too.
 fn inflow_number(file: &[u8], amount: &[u8], guard: usize, calls: &[u16]) -> usize
-    ensures { result ≡ cond (any (withAmount isCredit (front amount.now)) (fields_at file.now calls.now)) 0 guard }
+    ensures { result ≡ cond (any (with_amount is_credit (front amount.now)) (fields_at file.now calls.now)) 0 guard }
 {
     if is_credited(file, amount, calls) {
         return 0;
@@ -76,7 +76,7 @@ fn map_number(file: &[u8], map: &[u8], agreed: Agreed, facts: &[u16]) -> usize
     requires short { length file.now ≤ 32768 }
     requires funded { Funded file.now facts.now }
     requires agreed { Agrees file.now agreed }
-    ensures { tokenOf file.now result ≡ fundingToken (fields file.now) map.now }
+    ensures { token_of file.now result ≡ funding_token (fields file.now) map.now }
 {
     let last = receiver(skip(file, agreed.debit));
     if (0 < last.len()) & same_bytes(last, map) {
@@ -89,7 +89,7 @@ fn map_number(file: &[u8], map: &[u8], agreed: Agreed, facts: &[u16]) -> usize
 // number that was found, and then no token is read.
 fn is_barred(file: &[u8], found: usize, number: usize) -> bool
     requires { Found file.now found }
-    ensures { result ≡ bars (tokenOf file.now found) (tokenOf file.now number) }
+    ensures { result ≡ bars (token_of file.now found) (token_of file.now number) }
 {
     if number == found {
         return number < 2;
@@ -104,7 +104,7 @@ fn is_barred(file: &[u8], found: usize, number: usize) -> bool
 // What the raises agree on after one whose token has that number; a debit of it stands at that place.
 fn agreed_with(file: &[u8], agreed: Agreed, number: usize, debit: usize) -> Agreed
     requires { Agrees file.now agreed }
-    ensures { result ≡ agreedWith file.now agreed number debit }
+    ensures { result ≡ agreed_with file.now agreed number debit }
 {
     if is_barred(file, agreed.number, number) {
         return Agreed {
@@ -123,7 +123,7 @@ fn after_debit(file: &[u8], debit: usize, agreed: Agreed, facts: &[u16]) -> Agre
     requires short { length file.now ≤ 32768 }
     requires funded { Funded file.now facts.now }
     requires agreed { Agrees file.now agreed }
-    ensures { Agreeing file.now agreed (mapToken (fields file.now) (front (drop debit file.now)) ∷ []) result }
+    ensures { Agreeing file.now agreed (map_token (fields file.now) (front (drop debit file.now)) ∷ []) result }
 {
     let call = skip(file, debit);
     if !is_present(call) {
@@ -151,7 +151,7 @@ pub fn after_raise(
 ) -> Agreed
     requires entry { RaisesOf file.now facts.now entry calls.now }
     requires agreed { Agrees file.now agreed }
-    ensures { Agreeing file.now agreed (raiseToken (fields file.now) (front (drop entry.place file.now)) (front amount.now) ∷ []) result }
+    ensures { Agreeing file.now agreed (raise_token (fields file.now) (front (drop entry.place file.now)) (front amount.now) ∷ []) result }
 {
     if comes_in(skip(file, entry.place), amount, entry.unnamed) {
         let number = inflow_number(file, amount, entry.guard, calls);

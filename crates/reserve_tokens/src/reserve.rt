@@ -4,10 +4,10 @@
 ghost use Rattle.std.specs.Prelude.{◌≡◌, ◌*◌, ◌≤◌, ◌<◌, length, drop};
 ghost use Rattle.fields.specs.Field.{fields, front};
 ghost use Rattle.tokens.specs.Tokens.{single};
-ghost use Rattle.tokens.specs.Numbers.{tokenOf, Standing};
+ghost use Rattle.tokens.specs.Numbers.{token_of, Standing};
 ghost use Rattle.fundings.specs.Funded.{Funded};
-ghost use Rattle.reserve_tokens.specs.ReserveTokens.{raiseTokens, reserveToken};
-ghost use Rattle.reserve_tokens.specs.Agreeing.{tokensIn, Agrees, Agreeing, RaisesOf};
+ghost use Rattle.reserve_tokens.specs.ReserveTokens.{raise_tokens, reserve_token};
+ghost use Rattle.reserve_tokens.specs.Agreeing.{tokens_in, Agrees, Agreeing, RaisesOf};
 
 use super::guard::only_guard_number;
 use super::raise::{Agreed, Raising, after_raise, has_unnamed};
@@ -31,7 +31,7 @@ fn after_raises(
 ) -> Agreed
     requires entry { RaisesOf file.now facts.now entry calls.now }
     requires before { Agrees file.now before }
-    ensures { Agreeing file.now before (tokensIn (fields file.now) name.now (front (drop entry.place file.now))) result }
+    ensures { Agreeing file.now before (tokens_in (fields file.now) name.now (front (drop entry.place file.now))) result }
 {
     let mut agreed = before;
     let mut t = first_raise(parts_of(skip(file, entry.place)), name);
@@ -61,7 +61,7 @@ fn after_entry(
     requires funded { Funded file.now facts.now }
     requires before { Agrees file.now before }
     requires room { length file.now ≤ 3 * length scratch.old }
-    ensures { Agreeing file.now before (tokensIn (fields file.now) name.now (front (drop place file.now))) result }
+    ensures { Agreeing file.now before (tokens_in (fields file.now) name.now (front (drop place file.now))) result }
 {
     let count = list_body(file, place, CALL, scratch);
     let entry = Raising {
@@ -77,7 +77,7 @@ fn raises_number(file: &[u8], name: &[u8], facts: &[u16], scratch: &mut [u16]) -
     requires short { length file.now ≤ 32768 }
     requires funded { Funded file.now facts.now }
     requires room { length file.now ≤ 3 * length scratch.old }
-    ensures reads { tokenOf file.now result ≡ single (raiseTokens (fields file.now) name.now) }
+    ensures reads { token_of file.now result ≡ single (raise_tokens (fields file.now) name.now) }
     ensures small { result < 65536 }
 {
     let mut agreed = Agreed {
@@ -103,7 +103,7 @@ pub fn reserve_number(file: &[u8], name: &[u8], facts: &[u16], scratch: &mut [u1
     requires short { length file.now ≤ 32768 }
     requires funded { Funded file.now facts.now }
     requires room { length file.now ≤ 3 * length scratch.old }
-    ensures reads { tokenOf file.now result ≡ reserveToken (fields file.now) name.now }
+    ensures reads { token_of file.now result ≡ reserve_token (fields file.now) name.now }
     ensures small { result < 65536 }
 {
     let number = raises_number(file, name, facts, scratch);
@@ -126,7 +126,7 @@ pub fn reserve_token<'a>(
     requires short { length file.now ≤ 32768 }
     requires funded { Funded file.now facts.now }
     requires room { length file.now ≤ 3 * length scratch.old }
-    ensures { result.now ≡ reserveToken (fields file.now) name.now }
+    ensures { result.now ≡ reserve_token (fields file.now) name.now }
 {
     token_of(file, reserve_number(file, name, facts, scratch))
 }

@@ -4,20 +4,20 @@ use Prim.Native.String.{String}
 use mathlib.Core.List.{flat_map}
 use mathlib.Core.Option.{none, some}
 use Rattle.laws.specs.Lists.{any, all, filter, find, position}
-use Rattle.laws.specs.Texts.{sameBytes, bytes, known}
-use Rattle.tags.specs.Tag.{State, Entry, Parameter, Guard, Set, AddTo, SubtractFrom, InAsset, Member, Checked, Wrapping, And, Eq, Lt, Gt, Le, Ge, Sub, Mul, composite, isAssign, isExpression, isStatement, isWrapper}
-use Rattle.fields.specs.Field.{fields, fieldsTo, front, nth, row, fieldsFrom, size, sizes, placed, placedFrom}
-use Rattle.fields.proofs.Writing.{write, name, typeName, integer, identifier}
-use Rattle.model.specs.Model.{stateNames, genesis, entries, params, body}
-use Rattle.walking.specs.Walking.{peel, peelFirst, walk, walkParts, stmtExprs, bodyExprs, exprs, guards, ident, method, receiver, isDebit, assetAmountBacker, isAssetParameter, assetParams, debits}
+use Rattle.laws.specs.Texts.{same_bytes, bytes, known}
+use Rattle.tags.specs.Tag.{State, Entry, Parameter, Guard, Set, AddTo, SubtractFrom, InAsset, Member, Checked, Wrapping, And, Eq, Lt, Gt, Le, Ge, Sub, Mul, composite, is_assign, is_expression, is_statement, is_wrapper}
+use Rattle.fields.specs.Field.{fields, fields_to, front, nth, row, fields_from, size, sizes, placed, placed_from}
+use Rattle.fields.proofs.Writing.{write, name, type_name, integer, identifier}
+use Rattle.model.specs.Model.{state_names, genesis, entries, params, body}
+use Rattle.walking.specs.Walking.{peel, peel_first, walk, walk_parts, stmt_exprs, body_exprs, exprs, guards, ident, method, receiver, is_debit, asset_amount_backer, is_asset_parameter, asset_params, debits}
 use Rattle.walking.specs.Table.{placed_at}
-use Rattle.equality.specs.Equality.{exprEq, partsEq, strip, sameText}
-use Rattle.tokens.specs.Tokens.{single, besideInAsset, isInflow, isCredit}
-use Rattle.raises.specs.Raises.{assigns, value, setsFrom, is_zero, defaults, genesisValues, startsAtZero, raise, raises}
-use Rattle.reserve_tokens.specs.ReserveTokens.{credited, guardToken, guardTokens, only, debitToken, raiseToken, raiseTokens, reserveToken}
-use Rattle.guards.specs.Guards.{containsInflow, guardedField, guardedAmount, guardedBy, containsWrapping, loweredBy, lowers}
-use Rattle.reserves.specs.Reserves.{reserveCovers, reserveBoundingPayout}
-use Rattle.reserves.specs.Candidates.{counts, stateIndex, numbersAt, candidateNumbers}
+use Rattle.equality.specs.Equality.{expr_eq, parts_eq, strip, same_text}
+use Rattle.tokens.specs.Tokens.{single, beside_in_asset, is_inflow, is_credit}
+use Rattle.raises.specs.Raises.{assigns, value, sets_from, is_zero, defaults, genesis_values, starts_at_zero, raise, raises}
+use Rattle.reserve_tokens.specs.ReserveTokens.{credited, guard_token, guard_tokens, only, debit_token, raise_token, raise_tokens, reserve_token}
+use Rattle.guards.specs.Guards.{contains_inflow, guarded_field, guarded_amount, guarded_by, contains_wrapping, lowered_by, lowers}
+use Rattle.reserves.specs.Reserves.{reserve_covers, reserve_bounding_payout}
+use Rattle.reserves.specs.Candidates.{counts, state_index, numbers_at, candidate_numbers}
 
 abbrev r : List ℕ
 r = identifier "r"
@@ -38,20 +38,20 @@ abbrev guard : List ℕ → List ℕ
 guard e = write Guard e
 
 abbrev asset : String → List ℕ
-asset p = write Parameter (name p ++ typeName "Q_Asset")
+asset p = write Parameter (name p ++ type_name "Q_Asset")
 
-abbrev amountOf : String → List ℕ
-amountOf p = write Member (identifier p ++ name "amount")
+abbrev amount_of : String → List ℕ
+amount_of p = write Member (identifier p ++ name "amount")
 
 -- a state field that starts at zero
 abbrev state : String → List ℕ
-state f = write State (name f ++ (typeName "Q_Integer" ++ integer "0"))
+state f = write State (name f ++ (type_name "Q_Integer" ++ integer "0"))
 
 -- r, raised by a.amount in T by an entry; s, which holds no token
 abbrev before : List ℕ
 before =
     state "s" ++ (state "r"
-    ++ write Entry (name "f" ++ (asset "a" ++ (guard (write Eq (write InAsset [] ++ identifier "T")) ++ write AddTo (r ++ amountOf "a")))))
+    ++ write Entry (name "f" ++ (asset "a" ++ (guard (write Eq (write InAsset [] ++ identifier "T")) ++ write AddTo (r ++ amount_of "a")))))
 
 -- an entry with an asset parameter b
 abbrev taking : List ℕ → List ℕ
@@ -59,7 +59,7 @@ taking parts = write Entry (name "g" ++ (asset "b" ++ parts))
 
 -- b.amount * 2
 abbrev double : List ℕ
-double = write Mul (amountOf "b" ++ integer "2")
+double = write Mul (amount_of "b" ++ integer "2")
 
 -- r >= double, and r -= double
 abbrev guarded : List ℕ
@@ -69,8 +69,8 @@ abbrev lowered : List ℕ
 lowered = write SubtractFrom (r ++ double)
 
 covering : List ℕ → List ℕ → List (List ℕ) → List (Option (List ℕ))
-unfolding any all filter find sameBytes known fields fieldsTo nth composite size sizes placed placedFrom row fieldsFrom flat_map isAssign isExpression isStatement isWrapper stateNames genesis entries params body peel peelFirst walk walkParts stmtExprs bodyExprs exprs guards ident method receiver isDebit assetAmountBacker isAssetParameter assetParams debits exprEq partsEq strip sameText single besideInAsset isInflow isCredit containsInflow guardedField guardedAmount guardedBy assigns value containsWrapping setsFrom loweredBy lowers is_zero defaults genesisValues startsAtZero raise raises credited guardToken guardTokens only debitToken raiseToken raiseTokens reserveToken reserveCovers reserveBoundingPayout
-covering amount token es = map (λ e. reserveBoundingPayout (fields (before ++ e)) (front e) (front amount) token) es
+unfolding any all filter find same_bytes known fields fields_to nth composite size sizes placed placed_from row fields_from flat_map is_assign is_expression is_statement is_wrapper state_names genesis entries params body peel peel_first walk walk_parts stmt_exprs body_exprs exprs guards ident method receiver is_debit asset_amount_backer is_asset_parameter asset_params debits expr_eq parts_eq strip same_text single beside_in_asset is_inflow is_credit contains_inflow guarded_field guarded_amount guarded_by assigns value contains_wrapping sets_from lowered_by lowers is_zero defaults genesis_values starts_at_zero raise raises credited guard_token guard_tokens only debit_token raise_token raise_tokens reserve_token reserve_covers reserve_bounding_payout
+covering amount token es = map (λ e. reserve_bounding_payout (fields (before ++ e)) (front e) (front amount) token) es
 
 -- of double, in T
 abbrev covered : List (List ℕ) → List (Option (List ℕ))
@@ -92,7 +92,7 @@ guards-that-bound = refl
 -- none at all, amount > r, amount >= r, r < amount, r == amount, inside And, another amount, a field that is no state field
 guards-that-do-not : covered
     (lowered ∷ (guard (write Gt (double ++ r)) ++ lowered) ∷ (guard (write Ge (double ++ r)) ++ lowered) ∷ (guard (write Lt (r ++ double)) ++ lowered)
-    ∷ (guard (write Eq (r ++ double)) ++ lowered) ∷ (guard (write And (write Ge (r ++ double) ++ n)) ++ lowered) ∷ (guard (write Ge (r ++ amountOf "b")) ++ lowered)
+    ∷ (guard (write Eq (r ++ double)) ++ lowered) ∷ (guard (write And (write Ge (r ++ double) ++ n)) ++ lowered) ∷ (guard (write Ge (r ++ amount_of "b")) ++ lowered)
     ∷ (guard (write Ge (n ++ double)) ++ write SubtractFrom (n ++ double)) ∷ [])
     ≡ none ∷ none ∷ none ∷ none ∷ none ∷ none ∷ none ∷ none ∷ []
 unfolding covering
@@ -112,8 +112,8 @@ assignments-that-lower = refl
 -- beside the amount
 assignments-that-do-not : covered
     (guarded ∷ (guarded ++ write AddTo (r ++ double)) ∷ (guarded ++ write Set (r ++ write Sub (double ++ r))) ∷ (guarded ++ write Set (r ++ double))
-    ∷ (guarded ++ write SubtractFrom (s ++ double)) ∷ (guarded ++ write Set (r ++ write Sub (s ++ double))) ∷ (guarded ++ write SubtractFrom (r ++ amountOf "b"))
-    ∷ (guarded ++ write SubtractFrom (r ++ wrapping double)) ∷ (guarded ++ write SubtractFrom (r ++ write Mul (amountOf "b" ++ wrapping (integer "2"))))
+    ∷ (guarded ++ write SubtractFrom (s ++ double)) ∷ (guarded ++ write Set (r ++ write Sub (s ++ double))) ∷ (guarded ++ write SubtractFrom (r ++ amount_of "b"))
+    ∷ (guarded ++ write SubtractFrom (r ++ wrapping double)) ∷ (guarded ++ write SubtractFrom (r ++ write Mul (amount_of "b" ++ wrapping (integer "2"))))
     ∷ (guarded ++ write Set (r ++ write Sub (wrapping r ++ double))) ∷ [])
     ≡ none ∷ none ∷ none ∷ none ∷ none ∷ none ∷ none ∷ none ∷ none ∷ none ∷ []
 unfolding covering
@@ -122,13 +122,13 @@ assignments-that-do-not = refl
 -- Amounts and tokens
 
 -- b.amount itself is contained in itself
-whole-amount : covering (amountOf "b") (bytes "T") (taking (guard (write Ge (r ++ amountOf "b")) ++ write SubtractFrom (r ++ amountOf "b")) ∷ []) ≡ yes ∷ []
+whole-amount : covering (amount_of "b") (bytes "T") (taking (guard (write Ge (r ++ amount_of "b")) ++ write SubtractFrom (r ++ amount_of "b")) ∷ []) ≡ yes ∷ []
 unfolding covering
 whole-amount = refl
 
 -- n contains no amount of an asset parameter, nor does n.amount or a.amount, a being no parameter here
 no-amount : covering n (bytes "T") (taking (guard (write Ge (r ++ n)) ++ write SubtractFrom (r ++ n)) ∷ [])
-    ++ (covering (amountOf "n") (bytes "T") (taking (guard (write Ge (r ++ amountOf "n")) ++ write SubtractFrom (r ++ amountOf "n")) ∷ [])
+    ++ (covering (amount_of "n") (bytes "T") (taking (guard (write Ge (r ++ amount_of "n")) ++ write SubtractFrom (r ++ amount_of "n")) ∷ [])
     ++ covering double (bytes "T") (write Entry (name "g" ++ (guarded ++ lowered)) ∷ []))
     ≡ none ∷ none ∷ none ∷ []
 unfolding covering
@@ -153,8 +153,8 @@ first-that-covers = refl
 
 -- of the entry behind `before`, which takes 106 bytes; 24 stand before the entry's first guard, and a guard takes 33
 numbers : List (List ℕ) → List (List ℕ) → List (List ℕ)
-unfolding any filter sameBytes position fields fieldsTo nth composite size sizes placed row fieldsFrom flat_map isAssign isExpression isStatement isWrapper stateNames body peel peelFirst walk walkParts ident exprEq partsEq strip sameText guardedField guardedAmount assigns value containsWrapping setsFrom loweredBy lowers counts stateIndex numbersAt candidateNumbers
-numbers amounts bodies = map (λ c. candidateNumbers (fields (before ++ taking c)) (map front amounts) (placed_at (before ++ taking c) (length before))) bodies
+unfolding any filter same_bytes position fields fields_to nth composite size sizes placed row fields_from flat_map is_assign is_expression is_statement is_wrapper state_names body peel peel_first walk walk_parts ident expr_eq parts_eq strip same_text guarded_field guarded_amount assigns value contains_wrapping sets_from lowered_by lowers counts state_index numbers_at candidate_numbers
+numbers amounts bodies = map (λ c. candidate_numbers (fields (before ++ taking c)) (map front amounts) (placed_at (before ++ taking c) (length before))) bodies
 
 -- one guard that counts, its place and the number of r; none; two guards, of which the first does not count; asked for behind n
 listed : numbers (n ∷ double ∷ []) ((guarded ++ lowered) ∷ guarded ∷ (guard (write Ge (s ++ double)) ++ (guarded ++ lowered)) ∷ []) ≡ (130 ∷ 1 ∷ []) ∷ [] ∷ (163 ∷ 1 ∷ []) ∷ []
@@ -162,6 +162,6 @@ unfolding numbers
 listed = refl
 
 -- a guard whose amount nobody asks for
-unasked : numbers (n ∷ amountOf "b" ∷ []) ((guarded ++ lowered) ∷ []) ≡ [] ∷ []
+unasked : numbers (n ∷ amount_of "b" ∷ []) ((guarded ++ lowered) ∷ []) ≡ [] ∷ []
 unfolding numbers
 unasked = refl

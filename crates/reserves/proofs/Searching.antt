@@ -3,11 +3,11 @@ use Rattle.std.proofs.Common.{ℕ, ◌-◌, ◌≤◌, ◌<◌, ◌≡◌, refl,
 use lib.Seq.{take-length}
 use Rattle.laws.proofs.Slices.{drop-rest}
 use Rattle.fields.specs.Field.{front}
-use Rattle.guards.specs.Guards.{containsInflow}
-use Rattle.guards.specs.Asked.{askedToken, askedAmount}
+use Rattle.guards.specs.Guards.{contains_inflow}
+use Rattle.guards.specs.Asked.{asked_token, asked_amount}
 use Rattle.reserves.specs.Candidates.{Candidates}
-use Rattle.reserves.specs.Holding.{holdsToken}
-use Rattle.reserves.specs.Covers.{equalFrom, firstCovering}
+use Rattle.reserves.specs.Holding.{holds_token}
+use Rattle.reserves.specs.Covers.{equal_from, first_covering}
 use Rattle.reserves.specs.declared.covering.Reserve.{Reserve}
 use Rattle.reserves.specs.declared.covering.Reserve.TheVariants.{Nothing}
 use Rattle.reserves.proofs.Covered.{bounding, equal-first, none-contained, all-contained}
@@ -17,28 +17,28 @@ candidates-room file place asked count l n v =
     omega (arith, v.many, length-take n l, ap (λ m. length m) v.all)
 
 module _ (file : List ℕ) (place : ℕ) (amount asked : List ℕ) (count k : ℕ) (l : List ℕ) (v : Candidates file place asked count l (length l))
-    (among : k < count) (small : length file ≤ 32768) (d : front amount ≡ askedAmount file asked k)
-    (i : ℕ) (e : drop i l ≡ equalFrom file (front amount) l) where
-  found_first : containsInflow (front (drop place file)) (front amount) ≡ true →
-      firstCovering file (front amount) (holdsToken file (askedToken file asked k)) (drop i l) ≡ bounding file place asked k
+    (among : k < count) (small : length file ≤ 32768) (d : front amount ≡ asked_amount file asked k)
+    (i : ℕ) (e : drop i l ≡ equal_from file (front amount) l) where
+  found_first : contains_inflow (front (drop place file)) (front amount) ≡ true →
+      first_covering file (front amount) (holds_token file (asked_token file asked k)) (drop i l) ≡ bounding file place asked k
   found_first c =
-      rw (e, equal-first file (front amount) (holdsToken file (askedToken file asked k)) l, ← take-length l, v.all, d)
+      rw (e, equal-first file (front amount) (holds_token file (asked_token file asked k)) l, ← take-length l, v.all, d)
       (all-contained file place asked k count among v.room (rw d at c) small)
 
   pub none_equal : length l ≤ i → Nothing ≡ bounding file place asked k
-  unfolding firstCovering
-  none_equal h = go (containsInflow (front (drop place file)) (front amount)) refl
+  unfolding first_covering
+  none_equal h = go (contains_inflow (front (drop place file)) (front amount)) refl
     where
-      go : (c : Bool) → containsInflow (front (drop place file)) (front amount) ≡ c → Nothing ≡ bounding file place asked k
+      go : (c : Bool) → contains_inflow (front (drop place file)) (front amount) ≡ c → Nothing ≡ bounding file place asked k
       go true c = rw (drop_of_length-le l {i = i} h) at (found_first c)
       go false c = none-contained file place asked k (rw d at c)
 
   pub first-covers : (r : Reserve) →
-      r ≡ cond (containsInflow (front (drop place file)) (front amount))
-      (firstCovering file (front amount) (holdsToken file (askedToken file asked k)) (take (length l - i) (drop i l))) Nothing → r ≡ bounding file place asked k
-  first-covers r q = q ∙ rw (drop-rest l i) (go (containsInflow (front (drop place file)) (front amount)) refl)
+      r ≡ cond (contains_inflow (front (drop place file)) (front amount))
+      (first_covering file (front amount) (holds_token file (asked_token file asked k)) (take (length l - i) (drop i l))) Nothing → r ≡ bounding file place asked k
+  first-covers r q = q ∙ rw (drop-rest l i) (go (contains_inflow (front (drop place file)) (front amount)) refl)
     where
-      go : (c : Bool) → containsInflow (front (drop place file)) (front amount) ≡ c →
-          cond c (firstCovering file (front amount) (holdsToken file (askedToken file asked k)) (drop i l)) Nothing ≡ bounding file place asked k
+      go : (c : Bool) → contains_inflow (front (drop place file)) (front amount) ≡ c →
+          cond c (first_covering file (front amount) (holds_token file (asked_token file asked k)) (drop i l)) Nothing ≡ bounding file place asked k
       go true c = found_first c
       go false c = none-contained file place asked k (rw d at c)

@@ -4,8 +4,8 @@ ghost use Rattle.std.specs.Prelude.{◌≡◌, ◌*◌, ◌≤◌, length, drop}
 ghost use Rattle.fields.specs.Field.{fields, front};
 ghost use Rattle.fields.specs.Table.{Listed};
 ghost use Rattle.walking.specs.Table.{placed_at};
-ghost use Rattle.guards.specs.Asked.{askedAmounts, inflowAmounts};
-ghost use Rattle.reserves.specs.Candidates.{LoweringsOf, stateNumber, countedNumber, partNumber, pair_of, PairFits, candidateNumbers};
+ghost use Rattle.guards.specs.Asked.{asked_amounts, inflow_amounts};
+ghost use Rattle.reserves.specs.Candidates.{LoweringsOf, state_number, counted_number, part_number, pair_of, PairFits, candidate_numbers};
 
 use entries::entry::Entry;
 use fields::bytes::{same_bytes, skip};
@@ -20,7 +20,7 @@ use tags::{GUARD, SET, STATE, SUBTRACT_FROM};
 
 // The number of the first state field of that name, counted from 1; 0 where none has it.
 fn state_number(file: &[u8], name: &[u8]) -> usize
-    ensures { result ≡ stateNumber (fields file.now) name.now }
+    ensures { result ≡ state_number (fields file.now) name.now }
 {
     let mut t = first_from(file, STATE, STATE);
     let mut n = 1;
@@ -39,8 +39,8 @@ fn state_number(file: &[u8], name: &[u8]) -> usize
 // guard does not count. Most guards bound no payout's amount, and payouts are few, so they are asked first. An amount that is
 // asked for is lowered only by the lowerings that a table has.
 fn counted_number(file: &[u8], asked: &[u16], entry: &[u8], lowered: &[u16], s: &[u8]) -> usize
-    requires { LoweringsOf (askedAmounts file.now asked.now) entry.now lowered.now }
-    ensures { result ≡ countedNumber (fields file.now) (askedAmounts file.now asked.now) (front entry.now) (front s.now) }
+    requires { LoweringsOf (asked_amounts file.now asked.now) entry.now lowered.now }
+    ensures { result ≡ counted_number (fields file.now) (asked_amounts file.now asked.now) (front entry.now) (front s.now) }
 {
     let amount = guarded_amount(s);
     if !is_asked(file, asked, amount) {
@@ -55,8 +55,8 @@ fn counted_number(file: &[u8], asked: &[u16], entry: &[u8], lowered: &[u16], s: 
 
 // The same of the part of the entry at the front of s; 0 where it is no guard.
 fn part_number(file: &[u8], asked: &[u16], entry: &[u8], lowered: &[u16], s: &[u8]) -> usize
-    requires { LoweringsOf (askedAmounts file.now asked.now) entry.now lowered.now }
-    ensures { result ≡ partNumber (fields file.now) (askedAmounts file.now asked.now) (front entry.now) (front s.now) }
+    requires { LoweringsOf (asked_amounts file.now asked.now) entry.now lowered.now }
+    ensures { result ≡ part_number (fields file.now) (asked_amounts file.now asked.now) (front entry.now) (front s.now) }
 {
     if tag_of(s) != GUARD {
         return 0;
@@ -85,8 +85,8 @@ fn list_guards(
     lowered: &[u16],
     table: &mut [u16],
 ) -> usize
-    requires { LoweringsOf (askedAmounts file.now asked.now) (drop place file.now) lowered.now }
-    ensures { Listed (candidateNumbers (fields file.now) (askedAmounts file.now asked.now) (placed_at file.now place)) table.old 0 table.new result }
+    requires { LoweringsOf (asked_amounts file.now asked.now) (drop place file.now) lowered.now }
+    ensures { Listed (candidate_numbers (fields file.now) (asked_amounts file.now asked.now) (placed_at file.now place)) table.old 0 table.new result }
 {
     let entry = skip(file, place);
     if !is_whole(entry) {
@@ -115,7 +115,7 @@ fn list_lowered_guards(
 ) -> usize
     requires short { length file.now ≤ 32768 }
     requires room { length file.now ≤ 3 * length scratch.old }
-    ensures { Listed (candidateNumbers (fields file.now) (askedAmounts file.now asked.now) (placed_at file.now place)) table.old 0 table.new result }
+    ensures { Listed (candidate_numbers (fields file.now) (asked_amounts file.now asked.now) (placed_at file.now place)) table.old 0 table.new result }
 {
     let count = list_lowerings(file, asked, skip(file, place), scratch);
     if count == 0 {
@@ -132,7 +132,7 @@ pub fn list_candidates(file: &[u8], entry: Entry, table: &mut [u16], scratch: &m
     requires few { entry.payouts ≤ 64 }
     requires paid { entry.payouts ≤ length entry.paid }
     requires room { length file.now ≤ 3 * length scratch.old }
-    ensures { Listed (candidateNumbers (fields file.now) (inflowAmounts file.now entry.place entry.paid entry.payouts) (placed_at file.now entry.place)) table.old 0 table.new result }
+    ensures { Listed (candidate_numbers (fields file.now) (inflow_amounts file.now entry.place entry.paid entry.payouts) (placed_at file.now entry.place)) table.old 0 table.new result }
 {
     let parts = parts_of(skip(file, entry.place));
     if !is_whole(first_from(parts, SET, SUBTRACT_FROM)) {

@@ -2,14 +2,14 @@
 // The state field that covers a payout.
 ghost use Rattle.std.specs.Prelude.{◌≡◌, cond, ◌&&◌, ◌+◌, ◌≤◌, ◌<◌, length, get_or, drop};
 ghost use Rattle.fields.specs.Field.{fields, front};
-ghost use Rattle.equality.specs.Equality.{exprEq};
-ghost use Rattle.reserves.specs.Reserves.{reserveBoundingPayout};
+ghost use Rattle.equality.specs.Equality.{expr_eq};
+ghost use Rattle.reserves.specs.Reserves.{reserve_bounding_payout};
 ghost use Rattle.reserves.specs.Candidates.{Candidates};
-ghost use Rattle.guards.specs.Guards.{containsInflow};
-ghost use Rattle.guards.specs.Asked.{askedToken, askedAmount};
-ghost use Rattle.reserves.specs.Holding.{holdsToken, Facts, Known};
+ghost use Rattle.guards.specs.Guards.{contains_inflow};
+ghost use Rattle.guards.specs.Asked.{asked_token, asked_amount};
+ghost use Rattle.reserves.specs.Holding.{holds_token, Facts, Known};
 ghost use Rattle.reserves.specs.declared.covering.Reserve.TheVariants.{Nothing};
-ghost use Rattle.reserves.specs.Covers.{reserveOf, amountAt, equalFrom, firstCovering};
+ghost use Rattle.reserves.specs.Covers.{reserve_of, amount_at, equal_from, first_covering};
 
 use super::holding::holds_token;
 use entries::entry::Entry;
@@ -30,14 +30,14 @@ pub enum Reserve {
 
 // The amount of the guard that stands at a place of the file.
 fn amount_at(file: &[u8], place: usize) -> &[u8]
-    ensures { front result.now ≡ amountAt file.now place }
+    ensures { front result.now ≡ amount_at file.now place }
 {
     guarded_amount(part_of(skip(file, place), 0))
 }
 
 // Where in the table of candidates the first stands whose guard bounds the amount; its end where none does.
 fn first_equal(file: &[u8], amount: &[u8], candidates: &[u16]) -> usize
-    ensures reads { drop result candidates.now ≡ equalFrom file.now (front amount.now) candidates.now }
+    ensures reads { drop result candidates.now ≡ equal_from file.now (front amount.now) candidates.now }
     ensures within { result ≤ length candidates.now }
 {
     let mut i = 0;
@@ -63,7 +63,7 @@ fn covers_amount(
 ) -> bool
     requires known { Known file.now facts.old scratch.old }
     requires inside { i < length candidates.now }
-    ensures covers { result ≡ exprEq (amountAt file.now (get_or candidates.now i 0)) (front amount.now) && holdsToken file.now token.now (get_or candidates.now (i + 1) 0) }
+    ensures covers { result ≡ expr_eq (amount_at file.now (get_or candidates.now i 0)) (front amount.now) && holds_token file.now token.now (get_or candidates.now (i + 1) 0) }
     ensures known { Known file.now facts.new scratch.new }
 {
     if !expr_eq(amount_at(file, number_at(candidates, i)), amount) {
@@ -82,7 +82,7 @@ fn first_covering(
     scratch: &mut [u16],
 ) -> Reserve
     requires { Known file.now facts.old scratch.old }
-    ensures found { result ≡ firstCovering file.now (front amount.now) (holdsToken file.now token.now) candidates.now }
+    ensures found { result ≡ first_covering file.now (front amount.now) (holds_token file.now token.now) candidates.now }
     ensures facts { Facts file.now facts.new }
 {
     let mut i = 0;
@@ -109,7 +109,7 @@ fn first_contained(
 ) -> Reserve
     requires known { Known file.now facts.old scratch.old }
     requires within { length amount.now ≤ length file.now }
-    ensures found { result ≡ cond (containsInflow (front (drop entry.place file.now)) (front amount.now)) (firstCovering file.now (front amount.now) (holdsToken file.now (askedToken file.now entry.paid k)) candidates.now) Nothing }
+    ensures found { result ≡ cond (contains_inflow (front (drop entry.place file.now)) (front amount.now)) (first_covering file.now (front amount.now) (holds_token file.now (asked_token file.now entry.paid k)) candidates.now) Nothing }
     ensures facts { Facts file.now facts.new }
 {
     if !contains_inflow(skip(file, entry.place), amount, scratch) {
@@ -132,7 +132,7 @@ pub fn reserve_bounding_payout(
     requires known { Known file.now facts.old scratch.old }
     requires among { k < entry.payouts }
     requires listed { Candidates file.now entry.place entry.paid entry.payouts candidates.now (length candidates.now) }
-    ensures found { result ≡ reserveOf (fields file.now) (reserveBoundingPayout (fields file.now) (front (drop entry.place file.now)) (askedAmount file.now entry.paid k) (askedToken file.now entry.paid k)) }
+    ensures found { result ≡ reserve_of (fields file.now) (reserve_bounding_payout (fields file.now) (front (drop entry.place file.now)) (asked_amount file.now entry.paid k) (asked_token file.now entry.paid k)) }
     ensures facts { Facts file.now facts.new }
 {
     let amount = asked_amount(file, &entry.paid, k);

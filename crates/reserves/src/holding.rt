@@ -2,11 +2,11 @@
 // Whether a state field holds a token that is asked for. A field's token is worked out once for all entries of a file and then
 // remembered, in a table that the caller lends, by its number; 1 where the field holds none.
 ghost use Rattle.std.specs.Prelude.{◌≡◌, cond, ◌+◌, ◌<◌, ltb, length, set};
-ghost use Rattle.tokens.specs.Numbers.{tokenOf};
-ghost use Rattle.fundings.specs.Funded.{stateFields, rememberedAt};
+ghost use Rattle.tokens.specs.Numbers.{token_of};
+ghost use Rattle.fundings.specs.Funded.{state_fields, remembered_at};
 ghost use Rattle.fields.specs.Field.{fields};
-ghost use Rattle.reserve_tokens.specs.ReserveTokens.{reserveToken};
-ghost use Rattle.reserves.specs.Holding.{stateName, isToken, holdsToken, Facts, Known};
+ghost use Rattle.reserve_tokens.specs.ReserveTokens.{reserve_token};
+ghost use Rattle.reserves.specs.Holding.{state_name, is_token, holds_token, Facts, Known};
 
 use fields::bytes::same_bytes;
 use fields::front::nth_from;
@@ -19,14 +19,14 @@ use tokens::number::{NOT_YET, token_of};
 
 // The name of the state field of that number; no bytes where there is none.
 pub fn state_name(file: &[u8], index: usize) -> &[u8]
-    ensures { result.now ≡ stateName file.now index }
+    ensures { result.now ≡ state_name file.now index }
 {
     name_of(nth_from(file, STATE, STATE, index))
 }
 
 // Whether u is a known token and t.
 fn is_token(t: &[u8], u: &[u8]) -> bool
-    ensures { result ≡ isToken t.now u.now }
+    ensures { result ≡ is_token t.now u.now }
 {
     if u.len() == 0 {
         return false;
@@ -37,8 +37,8 @@ fn is_token(t: &[u8], u: &[u8]) -> bool
 // Writes a number for the state field of that number, where there is room for it.
 fn remember(number: usize, facts: &mut [u16], index: usize) -> usize
     requires small { number < 65536 }
-    requires room { stateFields < length facts.old }
-    ensures { facts.new ≡ cond (ltb index stateFields) (set facts.old (1 + index) number) facts.old }
+    requires room { state_fields < length facts.old }
+    ensures { facts.new ≡ cond (ltb index state_fields) (set facts.old (1 + index) number) facts.old }
 {
     if index < STATE_FIELDS {
         facts[1 + index] = number as u16;
@@ -49,7 +49,7 @@ fn remember(number: usize, facts: &mut [u16], index: usize) -> usize
 
 // What is remembered of it.
 fn remembered(facts: &[u16], index: usize) -> usize
-    ensures { result ≡ rememberedAt facts.now index }
+    ensures { result ≡ remembered_at facts.now index }
 {
     if index < STATE_FIELDS {
         return number_at(facts, 1 + index);
@@ -60,7 +60,7 @@ fn remembered(facts: &[u16], index: usize) -> usize
 // The number of the token that the state field of that number holds, worked out and remembered.
 fn work_out(file: &[u8], index: usize, facts: &mut [u16], scratch: &mut [u16]) -> usize
     requires { Known file.now facts.old scratch.old }
-    ensures reads { tokenOf file.now result ≡ reserveToken (fields file.now) (stateName file.now index) }
+    ensures reads { token_of file.now result ≡ reserve_token (fields file.now) (state_name file.now index) }
     ensures facts { Facts file.now facts.new }
 {
     let number = reserve_number(file, state_name(file, index), facts, scratch);
@@ -71,7 +71,7 @@ fn work_out(file: &[u8], index: usize, facts: &mut [u16], scratch: &mut [u16]) -
 // The same, by what is remembered of the field where something is.
 fn held_number(file: &[u8], index: usize, facts: &mut [u16], scratch: &mut [u16]) -> usize
     requires { Known file.now facts.old scratch.old }
-    ensures reads { tokenOf file.now result ≡ reserveToken (fields file.now) (stateName file.now index) }
+    ensures reads { token_of file.now result ≡ reserve_token (fields file.now) (state_name file.now index) }
     ensures facts { Facts file.now facts.new }
 {
     let number = remembered(facts, index);
@@ -90,7 +90,7 @@ pub fn holds_token(
     scratch: &mut [u16],
 ) -> bool
     requires { Known file.now facts.old scratch.old }
-    ensures holds { result ≡ holdsToken file.now token.now index }
+    ensures holds { result ≡ holds_token file.now token.now index }
     ensures facts { Facts file.now facts.new }
 {
     let number = held_number(file, index, facts, scratch);

@@ -81,16 +81,16 @@ abbrev pub Negate : ℕ
 Negate = 0x39
 
 abbrev pub Member : ℕ
-Member = 0x3A
+Member = 0x3_a
 
 abbrev pub Call : ℕ
-Call = 0x3B
+Call = 0x3_b
 
 abbrev pub Checked : ℕ
-Checked = 0x3C
+Checked = 0x3_c
 
 abbrev pub Wrapping : ℕ
-Wrapping = 0x3D
+Wrapping = 0x3_d
 
 -- Binary expressions
 abbrev pub Or : ℕ
@@ -124,48 +124,48 @@ abbrev pub Sub : ℕ
 Sub = 0x49
 
 abbrev pub Mul : ℕ
-Mul = 0x4A
+Mul = 0x4_a
 
 abbrev pub Div : ℕ
-Div = 0x4B
+Div = 0x4_b
 
 abbrev pub Rem : ℕ
-Rem = 0x4C
+Rem = 0x4_c
 
 abbrev pub Shr : ℕ
-Shr = 0x4D
+Shr = 0x4_d
 
 -- m ≤ t ≤ n
 abbrev pub between : ℕ → ℕ → ℕ → Bool
 between m n t = leb m t && leb t n
 
 -- 01 to 03, at the top level
-unfoldable pub isItem : ℕ → Bool
-isItem t = between State Entry t
+unfoldable pub is_item : ℕ → Bool
+is_item t = between State Entry t
 
 -- 05, 06
-unfoldable pub isClause : ℕ → Bool
-isClause t = between Limits Denies t
+unfoldable pub is_clause : ℕ → Bool
+is_clause t = between Limits Denies t
 
 -- 10 to 16
-unfoldable pub isStatement : ℕ → Bool
-isStatement t = between Guard ExpressionStatement t
+unfoldable pub is_statement : ℕ → Bool
+is_statement t = between Guard ExpressionStatement t
 
 -- 13 to 15
-unfoldable pub isAssign : ℕ → Bool
-isAssign t = between Set SubtractFrom t
+unfoldable pub is_assign : ℕ → Bool
+is_assign t = between Set SubtractFrom t
 
 -- 30 to 3D, 40 to 4D
-unfoldable pub isExpression : ℕ → Bool
-isExpression t = between Integer Wrapping t || between Or Shr t
+unfoldable pub is_expression : ℕ → Bool
+is_expression t = between Integer Wrapping t || between Or Shr t
 
 -- 20, 21, 30 to 33
-unfoldable pub isText : ℕ → Bool
-isText t = between Name TypeName t || between Integer Identifier t
+unfoldable pub is_text : ℕ → Bool
+is_text t = between Name TypeName t || between Integer Identifier t
 
 -- 3C, 3D: what `peel` takes off
-unfoldable pub isWrapper : ℕ → Bool
-isWrapper t = between Checked Wrapping t
+unfoldable pub is_wrapper : ℕ → Bool
+is_wrapper t = between Checked Wrapping t
 
 -- 01 to 06, 10 to 16, 38 to 3D, 40 to 4D: the content is fields
 unfoldable pub composite : ℕ → Bool

@@ -1,6 +1,6 @@
 // The tags of the model file, and the classes of tags. A test by ranges costs no table.
 ghost use Rattle.std.specs.Prelude.{◌≡◌};
-ghost use Rattle.tags.specs.Tag.{isItem, isClause, isStatement, isAssign, isExpression, isText, isWrapper, composite};
+ghost use Rattle.tags.specs.Tag.{is_item, is_clause, is_statement, is_assign, is_expression, is_text, is_wrapper, composite};
 
 // Top level, and the parts of an entry
 pub const STATE: u8 = 0x01;
@@ -56,13 +56,13 @@ pub const NOT: u8 = 0x38;
 
 pub const NEGATE: u8 = 0x39;
 
-pub const MEMBER: u8 = 0x3A;
+pub const MEMBER: u8 = 0x3_a;
 
-pub const CALL: u8 = 0x3B;
+pub const CALL: u8 = 0x3_b;
 
-pub const CHECKED: u8 = 0x3C;
+pub const CHECKED: u8 = 0x3_c;
 
-pub const WRAPPING: u8 = 0x3D;
+pub const WRAPPING: u8 = 0x3_d;
 
 // Binary expressions
 pub const OR: u8 = 0x40;
@@ -85,59 +85,59 @@ pub const ADD: u8 = 0x48;
 
 pub const SUB: u8 = 0x49;
 
-pub const MUL: u8 = 0x4A;
+pub const MUL: u8 = 0x4_a;
 
-pub const DIV: u8 = 0x4B;
+pub const DIV: u8 = 0x4_b;
 
-pub const REM: u8 = 0x4C;
+pub const REM: u8 = 0x4_c;
 
-pub const SHR: u8 = 0x4D;
+pub const SHR: u8 = 0x4_d;
 
 // 01 to 03, at the top level
 pub fn is_item(tag: u8) -> bool
-    ensures { result ≡ isItem tag }
+    ensures { result ≡ is_item tag }
 {
     (STATE <= tag) & (tag <= ENTRY)
 }
 
 // 05, 06
 pub fn is_clause(tag: u8) -> bool
-    ensures { result ≡ isClause tag }
+    ensures { result ≡ is_clause tag }
 {
     (LIMITS <= tag) & (tag <= DENIES)
 }
 
 // 10 to 16
 pub fn is_statement(tag: u8) -> bool
-    ensures { result ≡ isStatement tag }
+    ensures { result ≡ is_statement tag }
 {
     (GUARD <= tag) & (tag <= EXPRESSION_STATEMENT)
 }
 
 // 13 to 15
 pub fn is_assign(tag: u8) -> bool
-    ensures { result ≡ isAssign tag }
+    ensures { result ≡ is_assign tag }
 {
     (SET <= tag) & (tag <= SUBTRACT_FROM)
 }
 
 // 30 to 3D, 40 to 4D
 pub fn is_expression(tag: u8) -> bool
-    ensures { result ≡ isExpression tag }
+    ensures { result ≡ is_expression tag }
 {
     (INTEGER <= tag) & (tag <= WRAPPING) | (OR <= tag) & (tag <= SHR)
 }
 
 // 20, 21, 30 to 33
 pub fn is_text(tag: u8) -> bool
-    ensures { result ≡ isText tag }
+    ensures { result ≡ is_text tag }
 {
     (NAME <= tag) & (tag <= TYPE_NAME) | (INTEGER <= tag) & (tag <= IDENTIFIER)
 }
 
 // 3C, 3D: what `peel` takes off
 pub fn is_wrapper(tag: u8) -> bool
-    ensures { result ≡ isWrapper tag }
+    ensures { result ≡ is_wrapper tag }
 {
     (CHECKED <= tag) & (tag <= WRAPPING)
 }

@@ -3,22 +3,22 @@ use Rattle.std.proofs.Common.{ℕ, ◌≡◌, refl, List, [], ◌∷◌, ◌++�
 use Prim.Native.String.{String}
 use mathlib.Core.List.{flat_map}
 use Rattle.laws.specs.Lists.{all, filter}
-use Rattle.laws.specs.Texts.{sameBytes, bytes, known}
-use Rattle.tags.specs.Tag.{Entry, Limits, Denies, Guard, InAsset, Checked, Wrapping, Not, Or, And, Eq, Ne, Lt, composite, isWrapper}
-use Rattle.fields.specs.Field.{fields, fieldsTo, front, nth, size, sizes, placed, placedFrom, place_of}
+use Rattle.laws.specs.Texts.{same_bytes, bytes, known}
+use Rattle.tags.specs.Tag.{Entry, Limits, Denies, Guard, InAsset, Checked, Wrapping, Not, Or, And, Eq, Ne, Lt, composite, is_wrapper}
+use Rattle.fields.specs.Field.{fields, fields_to, front, nth, size, sizes, placed, placed_from, place_of}
 use Rattle.fields.proofs.Writing.{write, name, identifier}
-use Rattle.walking.specs.Walking.{peel, peelFirst, peelPlace, peelFirstPlace, ident}
-use Rattle.conditions.specs.Conditions.{splitAnd, splitEach, splitFirst, negated, negatedEach, negatedFirst, conditionsOf, requiredConditions, opposite, operator}
-use Rattle.tokens.specs.Tokens.{single, besideInAsset, tokenNamed, tokensNamed, admittedInflowToken}
-use Rattle.tokens.specs.Numbers.{tokenOf, joined, joinedAll, conditionNumber, tokensNumber}
-use Rattle.tokens.specs.Place.{besidePlace, foundIn, foundOf, firstPlace, admittedPlace}
+use Rattle.walking.specs.Walking.{peel, peel_first, peel_place, peel_first_place, ident}
+use Rattle.conditions.specs.Conditions.{split_and, split_each, split_first, negated, negated_each, negated_first, conditions_of, required_conditions, opposite, operator}
+use Rattle.tokens.specs.Tokens.{single, beside_in_asset, token_named, tokens_named, admitted_inflow_token}
+use Rattle.tokens.specs.Numbers.{token_of, joined, joined_all, condition_number, tokens_number}
+use Rattle.tokens.specs.Place.{beside_place, found_in, found_of, first_place, admitted_place}
 
-abbrev inAsset : List ℕ
-inAsset = write InAsset []
+abbrev in_asset : List ℕ
+in_asset = write InAsset []
 
 -- in-asset == t
 abbrev holds : String → List ℕ
-holds t = write Eq (inAsset ++ identifier t)
+holds t = write Eq (in_asset ++ identifier t)
 
 abbrev x : List ℕ
 x = identifier "x"
@@ -36,16 +36,16 @@ abbrev guard : List ℕ → List ℕ
 guard e = write Guard e
 
 admitted : List (List ℕ) → List (List ℕ)
-unfolding all filter sameBytes known fields fieldsTo nth composite size sizes placed placedFrom flat_map isWrapper peel peelFirst
-    ident splitAnd splitEach splitFirst negated negatedEach negatedFirst conditionsOf requiredConditions opposite operator single
-    besideInAsset tokenNamed tokensNamed admittedInflowToken
-admitted cs = map (λ c. admittedInflowToken (front (entry c))) cs
+unfolding all filter same_bytes known fields fields_to nth composite size sizes placed placed_from flat_map is_wrapper peel peel_first
+    ident split_and split_each split_first negated negated_each negated_first conditions_of required_conditions opposite operator single
+    beside_in_asset token_named tokens_named admitted_inflow_token
+admitted cs = map (λ c. admitted_inflow_token (front (entry c))) cs
 
 -- conditions that name T
 naming : admitted
-    (limits (holds "T") ∷ guard (holds "T") ∷ guard (write Eq (identifier "T" ++ inAsset))
-    ∷ guard (write Eq (write Checked inAsset ++ write Wrapping (identifier "T"))) ∷ guard (write And (x ++ write And (holds "T" ++ x)))
-    ∷ denies (write Ne (inAsset ++ identifier "T")) ∷ denies (write Not (holds "T")) ∷ denies (write Or (x ++ write Ne (inAsset ++ identifier "T")))
+    (limits (holds "T") ∷ guard (holds "T") ∷ guard (write Eq (identifier "T" ++ in_asset))
+    ∷ guard (write Eq (write Checked in_asset ++ write Wrapping (identifier "T"))) ∷ guard (write And (x ++ write And (holds "T" ++ x)))
+    ∷ denies (write Ne (in_asset ++ identifier "T")) ∷ denies (write Not (holds "T")) ∷ denies (write Or (x ++ write Ne (in_asset ++ identifier "T")))
     ∷ (limits (holds "T") ++ guard (holds "T")) ∷ [])
     ≡ bytes "T" ∷ bytes "T" ∷ bytes "T" ∷ bytes "T" ∷ bytes "T" ∷ bytes "T" ∷ bytes "T" ∷ bytes "T" ∷ bytes "T" ∷ []
 unfolding admitted
@@ -53,8 +53,8 @@ naming = refl
 
 -- conditions that name none, and two that differ: a wrapped Eq, Ne, a denied Eq, a denied And, Or, in-asset twice, no in-asset
 naming-none : admitted
-    ([] ∷ guard (write Checked (holds "T")) ∷ guard (write Ne (inAsset ++ identifier "T")) ∷ denies (holds "T") ∷ denies (write And (x ++ write Ne (inAsset ++ identifier "T")))
-    ∷ guard (write Or (holds "T" ++ holds "T")) ∷ guard (write Eq (inAsset ++ inAsset)) ∷ guard (write Eq (x ++ x)) ∷ guard (write Lt (inAsset ++ identifier "T"))
+    ([] ∷ guard (write Checked (holds "T")) ∷ guard (write Ne (in_asset ++ identifier "T")) ∷ denies (holds "T") ∷ denies (write And (x ++ write Ne (in_asset ++ identifier "T")))
+    ∷ guard (write Or (holds "T" ++ holds "T")) ∷ guard (write Eq (in_asset ++ in_asset)) ∷ guard (write Eq (x ++ x)) ∷ guard (write Lt (in_asset ++ identifier "T"))
     ∷ (limits (holds "T") ++ guard (holds "U")) ∷ [])
     ≡ [] ∷ [] ∷ [] ∷ [] ∷ [] ∷ [] ∷ [] ∷ [] ∷ [] ∷ [] ∷ []
 unfolding admitted
@@ -62,13 +62,13 @@ naming-none = refl
 
 -- where the token stands: behind in-asset and its own head, on the left side, inside wrappers, in the first condition that names it
 places : List (List ℕ) → List ℕ
-unfolding filter known fields fieldsTo nth composite size sizes placed placedFrom place_of flat_map isWrapper peel peelFirst
-    peelPlace peelFirstPlace ident splitAnd splitEach splitFirst negated negatedEach negatedFirst conditionsOf requiredConditions
-    opposite operator besideInAsset tokenNamed besidePlace foundIn foundOf firstPlace admittedPlace
-places cs = map (λ c. admittedPlace (length (entry c)) (front (entry c))) cs
+unfolding filter known fields fields_to nth composite size sizes placed placed_from place_of flat_map is_wrapper peel peel_first
+    peel_place peel_first_place ident split_and split_each split_first negated negated_each negated_first conditions_of required_conditions
+    opposite operator beside_in_asset token_named beside_place found_in found_of first_place admitted_place
+places cs = map (λ c. admitted_place (length (entry c)) (front (entry c))) cs
 
 standing : places
-    (limits (holds "T") ∷ guard (write Eq (identifier "T" ++ inAsset)) ∷ guard (write Eq (write Checked inAsset ++ write Wrapping (identifier "T")))
+    (limits (holds "T") ∷ guard (write Eq (identifier "T" ++ in_asset)) ∷ guard (write Eq (write Checked in_asset ++ write Wrapping (identifier "T")))
     ∷ (guard x ++ guard (holds "T")) ∷ (limits (holds "T") ++ guard (holds "T")) ∷ guard x ∷ [])
     ≡ 19 ∷ 16 ∷ 25 ∷ 26 ∷ 19 ∷ 0 ∷ []
 unfolding places
@@ -76,13 +76,13 @@ standing = refl
 
 -- the number of what an entry names, by its conditions: none, one, the same twice (the place of the first comparison, and 2), two
 numbered : List (List ℕ) → List ℕ
-unfolding all filter sameBytes known fields fieldsTo nth composite size sizes placed placedFrom flat_map isWrapper peel peelFirst
-    ident splitAnd splitEach splitFirst negated negatedEach negatedFirst conditionsOf requiredConditions opposite operator
-    besideInAsset tokenNamed tokenOf joined joinedAll conditionNumber tokensNumber
-numbered cs = map (λ c. tokensNumber (entry c) (record { place = 0; this = front (entry c) })) cs
+unfolding all filter same_bytes known fields fields_to nth composite size sizes placed placed_from flat_map is_wrapper peel peel_first
+    ident split_and split_each split_first negated negated_each negated_first conditions_of required_conditions opposite operator
+    beside_in_asset token_named token_of joined joined_all condition_number tokens_number
+numbered cs = map (λ c. tokens_number (entry c) (record { place = 0; this = front (entry c) })) cs
 
 numbering : numbered
-    ([] ∷ guard x ∷ limits (holds "T") ∷ (guard x ++ denies (write Ne (inAsset ++ identifier "T"))) ∷ (limits (holds "T") ++ guard (holds "T"))
+    ([] ∷ guard x ∷ limits (holds "T") ∷ (guard x ++ denies (write Ne (in_asset ++ identifier "T"))) ∷ (limits (holds "T") ++ guard (holds "T"))
     ∷ (limits (holds "T") ++ guard (holds "U")) ∷ (limits (holds "T") ++ (guard (holds "U") ++ guard (holds "T"))) ∷ [])
     ≡ 0 ∷ 0 ∷ 12 ∷ 19 ∷ 12 ∷ 1 ∷ 1 ∷ []
 unfolding numbered

@@ -11,111 +11,111 @@ use Rattle.tags.specs.Tag.{Eq}
 use Rattle.fields.specs.Table.{Listed}
 use Rattle.fields.specs.Field.{Placed, front}
 use Rattle.fields.proofs.Inside.{Stands}
-use Rattle.walking.specs.Table.{mostFields, placed_at}
-use Rattle.conditions.specs.Conditions.{Condition, requiredConditions, operator}
-use Rattle.conditions.specs.Table.{marks, conditionAt}
+use Rattle.walking.specs.Table.{most_fields, placed_at}
+use Rattle.conditions.specs.Conditions.{Condition, required_conditions, operator}
+use Rattle.conditions.specs.Table.{marks, condition_at}
 use Rattle.conditions.proofs.Callers.{Holds, conditions-stand, table-wide, table-read}
-use Rattle.tokens.specs.Tokens.{besideInAsset, tokenNamed, tokensNamed, admittedInflowToken}
-use Rattle.tokens.specs.Numbers.{tokenAt}
-use Rattle.tokens.specs.Numbers.{tokenOf, joined, joinedAll, conditionNumber, tokensNumber, ConditionsOf, Standing}
+use Rattle.tokens.specs.Tokens.{beside_in_asset, token_named, tokens_named, admitted_inflow_token}
+use Rattle.tokens.specs.Numbers.{token_at}
+use Rattle.tokens.specs.Numbers.{token_of, joined, joined_all, condition_number, tokens_number, ConditionsOf, Standing}
 use Rattle.tokens.proofs.Joining.{Means, means-token, means-all, means-small, all-several}
 
 -- What the code tests
 
-module _ (n : ℕ) (entry : List ℕ) (k : ℕ) (t : List ℕ) (e : t ≡ tokenAt entry k) where
-  pub number-none : length t ≡ 0 → 0 ≡ conditionNumber n (conditionAt entry k)
-  unfolding conditionNumber tokenAt
+module _ (n : ℕ) (entry : List ℕ) (k : ℕ) (t : List ℕ) (e : t ≡ token_at entry k) where
+  pub number-none : length t ≡ 0 → 0 ≡ condition_number n (condition_at entry k)
+  unfolding condition_number token_at
   number-none h = rw (← e, unknown t h)
 
-  pub number-some : (length t ≡ 0 → ⊥) → n + k % 32768 + 2 ≡ conditionNumber n (conditionAt entry k)
-  unfolding conditionNumber conditionAt tokenAt
+  pub number-some : (length t ≡ 0 → ⊥) → n + k % 32768 + 2 ≡ condition_number n (condition_at entry k)
+  unfolding condition_number condition_at token_at
   number-some h = rw (← e, is_known t h)
 
 -- What it stands for
 
-named-beside : (c : Condition) → known (tokenNamed c) ≡ true → tokenNamed c ≡ besideInAsset c.this
-unfolding tokenNamed known
+named-beside : (c : Condition) → known (token_named c) ≡ true → token_named c ≡ beside_in_asset c.this
+unfolding token_named known
 named-beside c h = go (eqb (operator c) Eq) h
   where
-    go : (k : Bool) → known (cond k (besideInAsset c.this) []) ≡ true → cond k (besideInAsset c.this) [] ≡ besideInAsset c.this
+    go : (k : Bool) → known (cond k (beside_in_asset c.this) []) ≡ true → cond k (beside_in_asset c.this) [] ≡ beside_in_asset c.this
     go true h = refl
     go false h = cc
 
 -- the token that a condition names, or none
 abbrev pub named_by : Condition → List (List ℕ)
-named_by c = filter known (tokenNamed c ∷ [])
+named_by c = filter known (token_named c ∷ [])
 
-condition-token : (file : List ℕ) (n : ℕ) (c : Condition) → front (drop c.place (drop n file)) ≡ c.this → tokenOf file (n + c.place + 2) ≡ besideInAsset c.this
-unfolding tokenOf
+condition-token : (file : List ℕ) (n : ℕ) (c : Condition) → front (drop c.place (drop n file)) ≡ c.this → token_of file (n + c.place + 2) ≡ beside_in_asset c.this
+unfolding token_of
 condition-token file n c s =
     let z : n + c.place + 2 - 2 ≡ n + c.place = omega arith in
     rw (le-leb 2 (n + c.place + 2) (omega arith), z, ← drop-drop c.place n file, s)
 
-condition-means : (file : List ℕ) (n : ℕ) (c : Condition) → front (drop c.place (drop n file)) ≡ c.this → Means file (conditionNumber n c) (named_by c)
-unfolding conditionNumber filter all
-condition-means file n c s = go (known (tokenNamed c)) refl
+condition-means : (file : List ℕ) (n : ℕ) (c : Condition) → front (drop c.place (drop n file)) ≡ c.this → Means file (condition_number n c) (named_by c)
+unfolding condition_number filter all
+condition-means file n c s = go (known (token_named c)) refl
   where
-    go : (k : Bool) → known (tokenNamed c) ≡ k → Means file (cond k (n + c.place + 2) 0) (cond k (tokenNamed c ∷ []) [])
+    go : (k : Bool) → known (token_named c) ≡ k → Means file (cond k (n + c.place + 2) 0) (cond k (token_named c ∷ []) [])
     go true e = (condition-token file n c s ∙ sym (named-beside c e), e)
     go false e = refl
 
-conditions-mean : (file : List ℕ) (n : ℕ) (cs : List Condition) → Every (Holds (Stands (drop n file))) cs → Every (λ c. Means file (conditionNumber n c) (named_by c)) cs
+conditions-mean : (file : List ℕ) (n : ℕ) (cs : List Condition) → Every (Holds (Stands (drop n file))) cs → Every (λ c. Means file (condition_number n c) (named_by c)) cs
 conditions-mean file n [] e = tt
 conditions-mean file n (c ∷ cs) e = (condition-means file n c e.0, conditions-mean file n cs e.1)
 
-named-each : (cs : List Condition) → flat_map named_by cs ≡ filter known (map tokenNamed cs)
+named-each : (cs : List Condition) → flat_map named_by cs ≡ filter known (map token_named cs)
 unfolding flat_map filter
 named-each [] = refl
-named-each (c ∷ cs) = go (known (tokenNamed c)) (named-each cs)
+named-each (c ∷ cs) = go (known (token_named c)) (named-each cs)
   where
-    go : (k : Bool) → flat_map named_by cs ≡ filter known (map tokenNamed cs) →
-        cond k (tokenNamed c ∷ []) [] ++ flat_map named_by cs ≡ cond k (tokenNamed c ∷ filter known (map tokenNamed cs)) (filter known (map tokenNamed cs))
+    go : (k : Bool) → flat_map named_by cs ≡ filter known (map token_named cs) →
+        cond k (token_named c ∷ []) [] ++ flat_map named_by cs ≡ cond k (token_named c ∷ filter known (map token_named cs)) (filter known (map token_named cs))
     go true e = rw e
     go false e = e
 
 -- a set with that of the entry
 pub entry-joined : (file : List ℕ) (p : Placed) → Stands file p → (a : ℕ) (ts : List (List ℕ)) → Means file a ts →
-    Means file (joinedAll file a (map (conditionNumber p.place) (requiredConditions p.this))) (ts ++ tokensNamed p.this)
-unfolding tokensNamed
+    Means file (joined_all file a (map (condition_number p.place) (required_conditions p.this))) (ts ++ tokens_named p.this)
+unfolding tokens_named
 entry-joined file p s a ts e =
-    rw (← named-each (requiredConditions p.this))
-    (means-all file (conditionNumber p.place) named_by a ts (requiredConditions p.this) e
-    (conditions-mean file p.place (requiredConditions p.this) (rw s at (conditions-stand (drop p.place file)))))
+    rw (← named-each (required_conditions p.this))
+    (means-all file (condition_number p.place) named_by a ts (required_conditions p.this) e
+    (conditions-mean file p.place (required_conditions p.this) (rw s at (conditions-stand (drop p.place file)))))
 
-pub entry-means : (file : List ℕ) (p : Placed) → Stands file p → Means file (tokensNumber file p) (tokensNamed p.this)
-unfolding tokensNumber
+pub entry-means : (file : List ℕ) (p : Placed) → Stands file p → Means file (tokens_number file p) (tokens_named p.this)
+unfolding tokens_number
 entry-means file p s = entry-joined file p s 0 [] refl
 
 -- so the token that it stands for is the one that the entry admits
-pub number-token : (s : List ℕ) (k : ℕ) → k ≡ tokensNumber s (placed_at s 0) → (r : List ℕ) → r ≡ tokenOf s k → r ≡ admittedInflowToken (front s)
-unfolding admittedInflowToken
+pub number-token : (s : List ℕ) (k : ℕ) → k ≡ tokens_number s (placed_at s 0) → (r : List ℕ) → r ≡ token_of s k → r ≡ admitted_inflow_token (front s)
+unfolding admitted_inflow_token
 number-token s k e r f =
-    f ∙ rw e (means-token s (tokensNumber s (placed_at s 0)) (tokensNamed (front s)) (entry-means s (placed_at s 0) refl))
+    f ∙ rw e (means-token s (tokens_number s (placed_at s 0)) (tokens_named (front s)) (entry-means s (placed_at s 0) refl))
 
-pub number_small : (file : List ℕ) (n j : ℕ) → Standing file n j → (r : ℕ) → r ≡ tokensNumber file (placed_at file n) → r < 65536
+pub number_small : (file : List ℕ) (n j : ℕ) → Standing file n j → (r : ℕ) → r ≡ tokens_number file (placed_at file n) → r < 65536
 number_small file n j h r e =
-    means-small file h.short r (tokensNamed (front (drop n file))) (rw e (entry-means file (placed_at file n) refl))
+    means-small file h.short r (tokens_named (front (drop n file))) (rw e (entry-means file (placed_at file n) refl))
 
 -- The conditions of a table, one after the other
 
 -- the number of the condition that a mark stands for
-unfoldable pub markNumber : List ℕ → ℕ → ℕ → ℕ
-markNumber entry n k = conditionNumber n (conditionAt entry k)
+unfoldable pub mark_number : List ℕ → ℕ → ℕ → ℕ
+mark_number entry n k = condition_number n (condition_at entry k)
 
 pub record Joining (g : ℕ → ℕ) (file l : List ℕ) (n r i found : ℕ) : Type 0 where
   pub within : i ≤ n
   pub room : n ≤ length l
-  pub left : joinedAll file found (map g (drop i (take n l))) ≡ r
+  pub left : joined_all file found (map g (drop i (take n l))) ≡ r
 
 module _ (g : ℕ → ℕ) (file l : List ℕ) (n r i found : ℕ) (v : Joining g file l n r i found) where
   pub joining-done : n ≤ i → found ≡ r
-  unfolding joinedAll
+  unfolding joined_all
   joining-done h =
       rw (drop_of_length-le (take n l) {i = i} (omega (arith, length-take-le n l v.room))) at v.left
 
   module _ (h : i < n) (b : ℕ) (f : b ≡ g (get_or l i 0)) (u : ℕ) (q : u ≡ joined file found b) where
-    joining-here : joinedAll file u (map g (drop (i + 1) (take n l))) ≡ r
-    unfolding joinedAll
+    joining-here : joined_all file u (map g (drop (i + 1) (take n l))) ≡ r
+    unfolding joined_all
     joining-here =
         let j : i < length (take n l) = omega (arith, length-take-le n l v.room) in
         let s : drop i (take n l) ≡ get_or l i 0 ∷ drop (i + 1) (take n l) = drop-step (take n l) i j ∙ rw (get_or-take n l i 0 h) in
@@ -124,51 +124,51 @@ module _ (g : ℕ → ℕ) (file l : List ℕ) (n r i found : ℕ) (v : Joining 
     joining-step : Joining g file l n r (i + 1) u
     joining-step = record { within = omega arith; room = v.room; left = joining-here }
 
-mapped-marks : (entry : List ℕ) (n : ℕ) (ks : List ℕ) → map (markNumber entry n) ks ≡ map (conditionNumber n) (map (conditionAt entry) ks)
-unfolding markNumber
+mapped-marks : (entry : List ℕ) (n : ℕ) (ks : List ℕ) → map (mark_number entry n) ks ≡ map (condition_number n) (map (condition_at entry) ks)
+unfolding mark_number
 mapped-marks entry n [] = refl
 mapped-marks entry n (k ∷ ks) = rw (mapped-marks entry n ks)
 
 module _ (file : List ℕ) (n : ℕ) (s : List ℕ) (e : s ≡ drop n file) where
-  module _ (h : Standing file n 0) (zeros table : List ℕ) (count : ℕ) (l : Listed (marks (requiredConditions (front s))) zeros 0 table count) where
+  module _ (h : Standing file n 0) (zeros table : List ℕ) (count : ℕ) (l : Listed (marks (required_conditions (front s))) zeros 0 table count) where
     short : length s ≤ 32768
     short = rw (e, length-drop n file) (omega (arith, h.short))
 
     -- a table that has room for all conditions holds them in front
     pub conditions-fit : count ≤ length zeros → ConditionsOf (drop n file) table count
     conditions-fit m =
-        let w : length table ≡ length zeros = rw l.kept (length-sets zeros 0 (marks (requiredConditions (front s)))) in
+        let w : length table ≡ length zeros = rw l.kept (length-sets zeros 0 (marks (required_conditions (front s)))) in
         record { room = omega arith; read = rw (← e) (table-read s zeros table count l short m) }
 
     -- as one of this length has
-    pub conditions-all : length zeros ≡ mostFields → ConditionsOf (drop n file) table count
+    pub conditions-all : length zeros ≡ most_fields → ConditionsOf (drop n file) table count
     conditions-all k = conditions-fit (table-wide s zeros table count l (omega (arith, short)))
 
   module _ (l : List ℕ) (count : ℕ) where
     -- from a set on
     pub joining-from : ConditionsOf (drop n file) l count → (a : ℕ) →
-        Joining (markNumber s n) file l count (joinedAll file a (map (conditionNumber n) (requiredConditions (front (drop n file))))) 0 a
+        Joining (mark_number s n) file l count (joined_all file a (map (condition_number n) (required_conditions (front (drop n file))))) 0 a
     joining-from c a = record {
       within = omega arith;
       room = c.room;
       left = rw (e, mapped-marks (drop n file) n (take count l), c.read);
     }
 
-    pub joining-all : ConditionsOf (drop n file) l count → Joining (markNumber s n) file l count (tokensNumber file (placed_at file n)) 0 0
-    unfolding tokensNumber
+    pub joining-all : ConditionsOf (drop n file) l count → Joining (mark_number s n) file l count (tokens_number file (placed_at file n)) 0 0
+    unfolding tokens_number
     joining-all c = joining-from c 0
 
-    module _ (r i found : ℕ) (v : Joining (markNumber s n) file l count r i found) (o : i < count) (k : ℕ) (f : k ≡ get_or l i 0)
-        (b : ℕ) (g : b ≡ conditionNumber n (conditionAt s k)) (u : ℕ) (q : u ≡ joined file found b) where
-      named_here : b ≡ markNumber s n (get_or l i 0)
-      unfolding markNumber
+    module _ (r i found : ℕ) (v : Joining (mark_number s n) file l count r i found) (o : i < count) (k : ℕ) (f : k ≡ get_or l i 0)
+        (b : ℕ) (g : b ≡ condition_number n (condition_at s k)) (u : ℕ) (q : u ≡ joined file found b) where
+      named_here : b ≡ mark_number s n (get_or l i 0)
+      unfolding mark_number
       named_here = rw (← f) g
 
-      pub joining-on : Joining (markNumber s n) file l count r (i + 1) u
-      joining-on = joining-step (markNumber s n) file l count r i found v o b named_here u q
+      pub joining-on : Joining (mark_number s n) file l count r (i + 1) u
+      joining-on = joining-step (mark_number s n) file l count r i found v o b named_here u q
 
       -- two that differ stay so
       pub joining-several : u ≡ 1 → r ≡ 1
       joining-several d =
-          sym (joining-here (markNumber s n) file l count r i found v o b named_here u q)
-          ∙ rw d (all-several file (map (markNumber s n) (drop (i + 1) (take count l))))
+          sym (joining-here (mark_number s n) file l count r i found v o b named_here u q)
+          ∙ rw d (all-several file (map (mark_number s n) (drop (i + 1) (take count l))))

@@ -1,47 +1,47 @@
 -- A set of tokens is a number: 0 it is empty, 1 it has two that differ, p + 2 it has one token, which the comparison at place p of
 -- the file names.
 use Rattle.std.specs.Prelude.{ℕ, ◌+◌, ◌-◌, ◌≤◌, ◌≡◌, cond, List, [], ◌∷◌, map, eqb, leb, length, take, drop}
-use Rattle.laws.specs.Texts.{sameBytes, known}
+use Rattle.laws.specs.Texts.{same_bytes, known}
 use Rattle.fields.specs.Field.{Placed, front}
-use Rattle.conditions.specs.Conditions.{Condition, requiredConditions}
-use Rattle.conditions.specs.Table.{conditionAt}
-use Rattle.tokens.specs.Tokens.{besideInAsset, tokenNamed}
+use Rattle.conditions.specs.Conditions.{Condition, required_conditions}
+use Rattle.conditions.specs.Table.{condition_at}
+use Rattle.tokens.specs.Tokens.{beside_in_asset, token_named}
 
 -- what is not worked out yet: no place, no count and no set has this number
-abbrev pub notYet : ℕ
-notYet = 65535
+abbrev pub not_yet : ℕ
+not_yet = 65535
 
 -- the one token of a set; none of an empty one and of one with two that differ
-unfoldable pub tokenOf : List ℕ → ℕ → List ℕ
-tokenOf file k = cond (leb 2 k) (besideInAsset (front (drop (k - 2) file))) []
+unfoldable pub token_of : List ℕ → ℕ → List ℕ
+token_of file k = cond (leb 2 k) (beside_in_asset (front (drop (k - 2) file))) []
 
 -- two sets together
 unfoldable pub joined : List ℕ → ℕ → ℕ → ℕ
-joined file a b = cond (eqb b 0) a (cond (eqb a 0) b (cond (sameBytes (tokenOf file a) (tokenOf file b)) a 1))
+joined file a b = cond (eqb b 0) a (cond (eqb a 0) b (cond (same_bytes (token_of file a) (token_of file b)) a 1))
 
 -- a set and all of a list
-unfoldable pub joinedAll : List ℕ → ℕ → List ℕ → ℕ
-joinedAll file a [] = a
-joinedAll file a (b ∷ bs) = joinedAll file (joined file a b) bs
+unfoldable pub joined_all : List ℕ → ℕ → List ℕ → ℕ
+joined_all file a [] = a
+joined_all file a (b ∷ bs) = joined_all file (joined file a b) bs
 
 -- what a condition of the entry at n names
-unfoldable pub conditionNumber : ℕ → Condition → ℕ
-conditionNumber n c = cond (known (tokenNamed c)) (n + c.place + 2) 0
+unfoldable pub condition_number : ℕ → Condition → ℕ
+condition_number n c = cond (known (token_named c)) (n + c.place + 2) 0
 
 -- what an entry names
-unfoldable pub tokensNumber : List ℕ → Placed → ℕ
-tokensNumber file entry = joinedAll file 0 (map (conditionNumber entry.place) (requiredConditions entry.this))
+unfoldable pub tokens_number : List ℕ → Placed → ℕ
+tokens_number file entry = joined_all file 0 (map (condition_number entry.place) (required_conditions entry.this))
 
 -- The conditions of an entry by a table
 
 -- the token that a number of the table of an entry's conditions stands for
-unfoldable pub tokenAt : List ℕ → ℕ → List ℕ
-tokenAt entry k = tokenNamed (conditionAt entry k)
+unfoldable pub token_at : List ℕ → ℕ → List ℕ
+token_at entry k = token_named (condition_at entry k)
 
 -- the first `count` numbers of a table stand for the conditions of an entry, with which this part of the file starts
 pub record ConditionsOf (entry table : List ℕ) (count : ℕ) : Type 0 where
   pub room : count ≤ length table
-  pub read : map (conditionAt entry) (take count table) ≡ requiredConditions (front entry)
+  pub read : map (condition_at entry) (take count table) ≡ required_conditions (front entry)
 
 -- the entry stands in a file that passes question 1, where n numbers were listed before
 pub record Standing (file : List ℕ) (place n : ℕ) : Type 0 where

@@ -5,14 +5,14 @@ use Rattle.laws.specs.Lists.{filter}
 use Rattle.laws.specs.Texts.{known}
 use Rattle.tags.specs.Tag.{InAsset}
 use Rattle.fields.specs.Field.{Field, Placed, tag, parts, part, place_of}
-use Rattle.walking.specs.Walking.{peel, peelPlace}
-use Rattle.conditions.specs.Conditions.{Condition, requiredConditions}
-use Rattle.tokens.specs.Tokens.{tokenNamed}
+use Rattle.walking.specs.Walking.{peel, peel_place}
+use Rattle.conditions.specs.Conditions.{Condition, required_conditions}
+use Rattle.tokens.specs.Tokens.{token_named}
 
 -- the identifier beside in-asset, in an expression at n; `last` is the end of the file
-unfoldable pub besidePlace : (last n : ℕ) → Field → ℕ
-besidePlace last n e =
-    cond (eqb (tag (peel (part 0 e))) InAsset) (peelPlace last (n + 3 + place_of 1 (parts e)) (part 1 e)) (peelPlace last (n + 3) (part 0 e))
+unfoldable pub beside_place : (last n : ℕ) → Field → ℕ
+beside_place last n e =
+    cond (eqb (tag (peel (part 0 e))) InAsset) (peel_place last (n + 3 + place_of 1 (parts e)) (part 1 e)) (peel_place last (n + 3) (part 0 e))
 
 -- a token with its place
 pub record Found : Type 0 where
@@ -20,18 +20,18 @@ pub record Found : Type 0 where
   pub place : ℕ
 
 -- what a condition of the entry at a place names: its text stands behind the identifier's head
-unfoldable pub foundIn : (last n : ℕ) → Condition → Found
-foundIn last n c = record { token = tokenNamed c; place = besidePlace last (n + c.place) c.this + 3 }
+unfoldable pub found_in : (last n : ℕ) → Condition → Found
+found_in last n c = record { token = token_named c; place = beside_place last (n + c.place) c.this + 3 }
 
 -- the known ones of an entry
-unfoldable pub foundOf : ℕ → Placed → List Found
-foundOf last entry = filter (λ f. known f.token) (map (foundIn last entry.place) (requiredConditions entry.this))
+unfoldable pub found_of : ℕ → Placed → List Found
+found_of last entry = filter (λ f. known f.token) (map (found_in last entry.place) (required_conditions entry.this))
 
 -- the place of the first; 0 where there is none
-unfoldable pub firstPlace : List Found → ℕ
-firstPlace [] = 0
-firstPlace (f ∷ fs) = f.place
+unfoldable pub first_place : List Found → ℕ
+first_place [] = 0
+first_place (f ∷ fs) = f.place
 
 -- of the token that an entry admits, with places counted from the entry's own
-unfoldable pub admittedPlace : ℕ → Field → ℕ
-admittedPlace last entry = firstPlace (foundOf last (record { place = 0; this = entry }))
+unfoldable pub admitted_place : ℕ → Field → ℕ
+admitted_place last entry = first_place (found_of last (record { place = 0; this = entry }))

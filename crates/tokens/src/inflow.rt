@@ -2,7 +2,7 @@
 // What comes in with an asset parameter, and the calls that credit it.
 ghost use Rattle.std.specs.Prelude.{◌≡◌};
 ghost use Rattle.fields.specs.Field.{front};
-ghost use Rattle.tokens.specs.Tokens.{isInflow, isCredit, isFunding};
+ghost use Rattle.tokens.specs.Tokens.{is_inflow, is_credit, is_funding};
 
 use fields::bytes::same_bytes;
 use fields::front::part_of;
@@ -13,14 +13,14 @@ use walking::shape::{method, receiver};
 
 // Whether `p.amount` stands at the front of s, p an asset parameter of the entry.
 pub fn is_inflow(entry: &[u8], s: &[u8]) -> bool
-    ensures { result ≡ isInflow (front entry.now) (front s.now) }
+    ensures { result ≡ is_inflow (front entry.now) (front s.now) }
 {
     has_asset_parameter(entry, asset_amount_backer(s))
 }
 
 // Whether a call of a member credit, set or insert stands at the front of s.
 pub fn is_credit(s: &[u8]) -> bool
-    ensures { result ≡ isCredit (front s.now) }
+    ensures { result ≡ is_credit (front s.now) }
 {
     let name = method(s);
     same_bytes(name, b"credit") | same_bytes(name, b"set") | same_bytes(name, b"insert")
@@ -28,7 +28,7 @@ pub fn is_credit(s: &[u8]) -> bool
 
 // Whether it credits the map, with a second argument, peeled, `p.amount`.
 pub fn is_funding(map: &[u8], entry: &[u8], s: &[u8]) -> bool
-    ensures { result ≡ isFunding map.now (front entry.now) (front s.now) }
+    ensures { result ≡ is_funding map.now (front entry.now) (front s.now) }
 {
     if !is_credit(s) {
         return false;

@@ -1,10 +1,10 @@
 // SPDX-License-Identifier: Apache-2.0 OR MIT
 // A set of tokens as one number, and the set that an entry names.
 ghost use Rattle.std.specs.Prelude.{◌≡◌, ◌≤◌, ◌<◌, drop};
-ghost use Rattle.laws.specs.Texts.{sameBytes};
+ghost use Rattle.laws.specs.Texts.{same_bytes};
 ghost use Rattle.walking.specs.Table.{placed_at};
-ghost use Rattle.conditions.specs.Table.{conditionAt};
-ghost use Rattle.tokens.specs.Numbers.{tokenOf, joined, conditionNumber, tokensNumber, ConditionsOf, Standing};
+ghost use Rattle.conditions.specs.Table.{condition_at};
+ghost use Rattle.tokens.specs.Numbers.{token_of, joined, condition_number, tokens_number, ConditionsOf, Standing};
 
 use super::naming::{beside_in_asset, token_at};
 use conditions::list::list_conditions;
@@ -21,7 +21,7 @@ pub const FEW: usize = 256;
 
 // The one token of a set; no bytes where it is empty or has two that differ.
 pub fn token_of(file: &[u8], number: usize) -> &[u8]
-    ensures { result.now ≡ tokenOf file.now number }
+    ensures { result.now ≡ token_of file.now number }
 {
     if number < 2 {
         return &file[..0];
@@ -31,7 +31,7 @@ pub fn token_of(file: &[u8], number: usize) -> &[u8]
 
 // Whether two sets have the same token.
 fn same_token(file: &[u8], a: usize, b: usize) -> bool
-    ensures { result ≡ sameBytes (tokenOf file.now a) (tokenOf file.now b) }
+    ensures { result ≡ same_bytes (token_of file.now a) (token_of file.now b) }
 {
     same_bytes(token_of(file, a), token_of(file, b))
 }
@@ -58,7 +58,7 @@ pub fn join(file: &[u8], a: usize, b: usize) -> usize
 // The set that a condition names, whose mark in the table of conditions is given, of the entry that stands at a place.
 pub fn condition_number(entry: &[u8], place: usize, mark: usize) -> usize
     requires { place ≤ 32768 }
-    ensures { result ≡ conditionNumber place (conditionAt entry.now mark) }
+    ensures { result ≡ condition_number place (condition_at entry.now mark) }
 {
     if token_at(entry, mark).len() == 0 {
         return 0;
@@ -70,7 +70,7 @@ pub fn condition_number(entry: &[u8], place: usize, mark: usize) -> usize
 fn tokens_number_among(file: &[u8], place: usize, table: &[u16], count: usize) -> usize
     requires standing { Standing file.now place 0 }
     requires listed { ConditionsOf (drop place file.now) table.now count }
-    ensures { result ≡ tokensNumber file.now (placed_at file.now place) }
+    ensures { result ≡ tokens_number file.now (placed_at file.now place) }
 {
     let entry = skip(file, place);
     let mut number = 0;
@@ -86,7 +86,7 @@ fn tokens_number_among(file: &[u8], place: usize, table: &[u16], count: usize) -
 // The same with no table at hand.
 pub fn tokens_number(file: &[u8], place: usize) -> usize
     requires { Standing file.now place 0 }
-    ensures reads { result ≡ tokensNumber file.now (placed_at file.now place) }
+    ensures reads { result ≡ tokens_number file.now (placed_at file.now place) }
     ensures small { result < 65536 }
 {
     let entry = skip(file, place);

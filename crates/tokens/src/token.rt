@@ -2,16 +2,16 @@
 // The token that an entry admits. It is a part of the file, and no token is the empty part.
 ghost use Rattle.std.specs.Prelude.{◌≡◌, ◌≤◌, length, take, drop};
 ghost use Rattle.fields.specs.Field.{front};
-ghost use Rattle.tokens.specs.Tokens.{admittedInflowToken};
-ghost use Rattle.tokens.specs.Place.{admittedPlace};
+ghost use Rattle.tokens.specs.Tokens.{admitted_inflow_token};
+ghost use Rattle.tokens.specs.Place.{admitted_place};
 
 use super::number::{token_of, tokens_number};
 
 // The one token that the entry at the front of s names; none where it names none, or two that differ.
 pub fn admitted_inflow_token(s: &[u8]) -> &[u8]
     requires { length s.now ≤ 32768 }
-    ensures reads { result.now ≡ admittedInflowToken (front s.now) }
-    ensures shows { result.now ≡ take (length result.now) (drop (admittedPlace (length s.now) (front s.now)) s.now) }
+    ensures reads { result.now ≡ admitted_inflow_token (front s.now) }
+    ensures shows { result.now ≡ take (length result.now) (drop (admitted_place (length s.now) (front s.now)) s.now) }
 {
     token_of(s, tokens_number(s, 0))
 }

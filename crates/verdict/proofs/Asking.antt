@@ -3,17 +3,17 @@ use Rattle.std.proofs.Common.{ℕ, zero, suc, ◌+◌, ◌-◌, ◌*◌, ◌≤�
 use Rattle.laws.specs.Lists.{filter}
 use Rattle.laws.proofs.Lists.{Every, every-filter, every-at}
 use Rattle.tags.specs.Tag.{Entry}
-use Rattle.fields.specs.Field.{Field, Fields, Placed, fields, nothing, whole, front, placed, placedFrom}
+use Rattle.fields.specs.Field.{Field, Fields, Placed, fields, nothing, whole, front, placed, placed_from}
 use Rattle.fields.proofs.Inside.{Stands, row-stands}
 use Rattle.model.specs.Model.{entries}
 use Rattle.questions.specs.Questions.{passes, fails, at_most}
 use Rattle.model.specs.Shown.{shown}
-use Rattle.walking.specs.Walking.{isPayout}
+use Rattle.walking.specs.Walking.{is_payout}
 use Rattle.walking.specs.Table.{placed_at}
-use Rattle.claim.specs.Verdict.{refused, entry_at, askEntry, entryVerdict}
-use Rattle.entries.specs.Calls.{bodyWhere}
-use Rattle.verdict.specs.Coded.{placedVerdict, backedVerdict}
-use Rattle.verdict.specs.Place.{placeOfEntry, Found}
+use Rattle.claim.specs.Verdict.{refused, entry_at, ask_entry, entry_verdict}
+use Rattle.entries.specs.Calls.{body_where}
+use Rattle.verdict.specs.Coded.{placed_verdict, backed_verdict}
+use Rattle.verdict.specs.Place.{place_of_entry, Found}
 use Rattle.verdict.specs.declared.entry.Place.{Place}
 use Rattle.verdict.specs.declared.entry.Place.TheVariants.{At, Nowhere}
 
@@ -33,7 +33,7 @@ module _ (l : List Placed) (n : ℕ) (d : Placed) where
   none-shown e = let h : 0 ≡ length (take 1 (drop n l)) = ap length e in omega (arith, rw (length-take, length-drop) at h)
 
 pub entries-stand : (file : List ℕ) → Every (Stands file) (entries (fields file))
-unfolding entries placedFrom
+unfolding entries placed_from
 entries-stand file =
     let all : Every (Stands file) (placed 0 (fields file)) = rw (take_all (length file) file (omega arith)) at (row-stands file 0 (length file)) in
     every-filter (Stands file) _ (placed 0 (fields file)) all
@@ -48,14 +48,14 @@ module _ (file : List ℕ) (n : ℕ) where
   -- what is shown is the entry, or there is none
   module _ (r : List ℕ) (e : shown file r ≡ take 1 (drop n (entries (fields file)))) where
     pub place-nowhere : whole r ≡ false → Found file n Nowhere
-    unfolding placeOfEntry
+    unfolding place_of_entry
     place-nowhere w = record {
       same = rw (le-ltb n (length (entries (fields file))) (none-shown (entries (fields file)) n no-entry (rw w at e)));
       inside = λ k f. let z : ◌≡◌ {A = ℕ} 0 1 = cc in absurd (omega arith);
     }
 
     pub place-there : whole r ≡ true → (k : ℕ) → k ≡ length file - length r → Found file n (At k)
-    unfolding placeOfEntry
+    unfolding place_of_entry
     place-there w k f =
         let here : Placed = record { place = length file - length r; this = front r } in
         let one : here ∷ [] ≡ take 1 (drop n (entries (fields file))) = rw w at e in
@@ -67,19 +67,19 @@ module _ (file : List ℕ) (n : ℕ) where
 
   module _ (r : Place) (v : Found file n r) where
     pub entry-missing : r ≡ Nowhere → length (entries (fields file)) ≤ n
-    unfolding placeOfEntry
+    unfolding place_of_entry
     entry-missing f = go v.same (ltb n (length (entries (fields file)))) refl
       where
-        go : r ≡ placeOfEntry file n → (b : Bool) → ltb n (length (entries (fields file))) ≡ b → length (entries (fields file)) ≤ n
+        go : r ≡ place_of_entry file n → (b : Bool) → ltb n (length (entries (fields file))) ≡ b → length (entries (fields file)) ≤ n
         go e true h = let z : ◌≡◌ {A = ℕ} 0 1 = cc in absurd (omega arith)
         go e false h = ltb-false n (length (entries (fields file))) h
 
     module _ (place : ℕ) (f : r ≡ At place) where
       counted-there : (n < length (entries (fields file))) × ((entry_at (fields file) n).place ≡ place)
-      unfolding placeOfEntry
+      unfolding place_of_entry
       counted-there = go v.same (ltb n (length (entries (fields file)))) refl
         where
-          go : r ≡ placeOfEntry file n → (b : Bool) → ltb n (length (entries (fields file))) ≡ b → (n < length (entries (fields file))) × ((entry_at (fields file) n).place ≡ place)
+          go : r ≡ place_of_entry file n → (b : Bool) → ltb n (length (entries (fields file))) ≡ b → (n < length (entries (fields file))) × ((entry_at (fields file) n).place ≡ place)
           go e true h = (ltb-true n (length (entries (fields file))) h, (cc))
           go e false h = let z : ◌≡◌ {A = ℕ} 0 1 = cc in absurd (omega arith)
 
@@ -92,19 +92,19 @@ module _ (file : List ℕ) (n : ℕ) where
 -- Questions 9 and 10: the first "no", or the verdict past them
 
 module _ (model : Fields) (n lent : ℕ) where
-  pub ninth : length (entries model) ≤ n → entryVerdict model n lent ≡ refused 9 0
-  unfolding entryVerdict askEntry
+  pub ninth : length (entries model) ≤ n → entry_verdict model n lent ≡ refused 9 0
+  unfolding entry_verdict ask_entry
   ninth h = cc (le-ltb n (length (entries model)) h)
 
-  pub not-ninth : n < length (entries model) → (e : Placed) → entry_at model n ≡ e → entryVerdict model n lent ≡ placedVerdict model e lent
-  unfolding entryVerdict askEntry placedVerdict
+  pub not-ninth : n < length (entries model) → (e : Placed) → entry_at model n ≡ e → entry_verdict model n lent ≡ placed_verdict model e lent
+  unfolding entry_verdict ask_entry placed_verdict
   not-ninth h e f = cc (lt-ltb n (length (entries model)) h)
 
 module _ (model : Fields) (e : Placed) (lent : ℕ) where
-  pub tenth : (p : Placed) (ps : List Placed) → drop 64 (bodyWhere isPayout e) ≡ p ∷ ps → placedVerdict model e lent ≡ refused 10 p.place
-  unfolding placedVerdict at_most
+  pub tenth : (p : Placed) (ps : List Placed) → drop 64 (body_where is_payout e) ≡ p ∷ ps → placed_verdict model e lent ≡ refused 10 p.place
+  unfolding placed_verdict at_most
   tenth p ps k = cc k
 
-  pub not-tenth : drop 64 (bodyWhere isPayout e) ≡ [] → placedVerdict model e lent ≡ backedVerdict model e lent
-  unfolding placedVerdict backedVerdict at_most
+  pub not-tenth : drop 64 (body_where is_payout e) ≡ [] → placed_verdict model e lent ≡ backed_verdict model e lent
+  unfolding placed_verdict backed_verdict at_most
   not-tenth k = cc k

@@ -4,14 +4,14 @@ use borrow.Author.Tests.{lt-leb}
 use lib.ListN.{length-map}
 use Rattle.laws.proofs.Lists.{no-elements}
 use Rattle.fields.specs.Field.{Field, Placed, fields}
-use Rattle.walking.specs.Walking.{isPayout, payouts}
+use Rattle.walking.specs.Walking.{is_payout, payouts}
 use Rattle.walking.specs.Table.{placed_at}
-use Rattle.entries.specs.Calls.{bodyWhere}
+use Rattle.entries.specs.Calls.{body_where}
 use Rattle.entries.specs.Entered.{Read, entry_of, nowhere}
 use Rattle.entries.specs.declared.entry.Entry.{Entry}
 use Rattle.entries.proofs.Called.{payouts-where}
-use Rattle.claim.specs.Verdict.{Verdict, refused, accepted, matchFrom, matching, backingCount, spare, entry_at, entryVerdict, sheet, written}
-use Rattle.verdict.specs.Coded.{coded, placedVerdict, backedVerdict, placedAnswer, placedCovers, entryAnswer, entryCovers}
+use Rattle.claim.specs.Verdict.{Verdict, refused, accepted, match_from, matching, backing_count, spare, entry_at, entry_verdict, sheet, written}
+use Rattle.verdict.specs.Coded.{coded, placed_verdict, backed_verdict, placed_answer, placed_covers, entry_answer, entry_covers}
 use Rattle.verdict.specs.Place.{Found}
 use Rattle.verdict.specs.declared.entry.Place.{Place}
 use Rattle.verdict.specs.declared.entry.Place.TheVariants.{At, Nowhere}
@@ -39,24 +39,24 @@ module _ (file : List ℕ) (en : Entry) (v : Read file en) (lent : List ℕ) whe
   this = entry_of file en.place
 
   abbrev told : CodedVerdict → Type 0
-  told x = x ≡ placedAnswer file en.place (length lent)
+  told x = x ≡ placed_answer file en.place (length lent)
 
   abbrev left : List ℕ → Type 0
-  left t = t ≡ placedCovers file en.place lent
+  left t = t ≡ placed_covers file en.place lent
 
-  refused-by : (k p : ℕ) → placedVerdict (fields file) here (length lent) ≡ refused k p → told (Refused k p) × left lent
+  refused-by : (k p : ℕ) → placed_verdict (fields file) here (length lent) ≡ refused k p → told (Refused k p) × left lent
   refused-by k p e =
-      let w : Verdict = placedVerdict (fields file) here (length lent) in
+      let w : Verdict = placed_verdict (fields file) here (length lent) in
       (told-refused w k p e (spare this), left-refused w k p e lent)
 
   abbrev those : List Placed
-  those = bodyWhere isPayout here
+  those = body_where is_payout here
 
   many : en.payouts ≡ length those
   many = v.many ∙ ap length (sym (payouts-where here)) ∙ length-map those (λ p. p.this)
 
-  all : en.total ≡ backingCount this
-  unfolding backingCount
+  all : en.total ≡ backing_count this
+  unfolding backing_count
   all = omega (arith, v.all, v.counted)
 
   module _ (h : 64 < en.payouts) (x : ℕ) (e : x ≡ get_or en.paid 64 0) where
@@ -71,13 +71,13 @@ module _ (file : List ℕ) (en : Entry) (v : Read file en) (lent : List ℕ) whe
     pub left-tenth : left lent
     left-tenth = tenth-refuses.1
 
-  past : en.payouts ≤ 64 → placedVerdict (fields file) here (length lent) ≡ backedVerdict (fields file) here (length lent)
+  past : en.payouts ≤ 64 → placed_verdict (fields file) here (length lent) ≡ backed_verdict (fields file) here (length lent)
   past h = not-tenth (fields file) here (length lent) (drop_of_length-le those {i = 64} (omega (arith, h, many)))
 
   module _ (h : en.payouts ≤ 64) where
     module _ (g : 64 < en.total) where
-      eleventh : placedVerdict (fields file) here (length lent) ≡ refused 11 en.place
-      unfolding backedVerdict
+      eleventh : placed_verdict (fields file) here (length lent) ≡ refused 11 en.place
+      unfolding backed_verdict
       eleventh = past h ∙ cc (all, lt-leb en.total 64 g)
 
       pub told-eleventh : told (Refused 11 en.place)
@@ -88,8 +88,8 @@ module _ (file : List ℕ) (en : Entry) (v : Read file en) (lent : List ℕ) whe
 
     module _ (g : en.total ≤ 64) where
       module _ (o : length lent < 3 * en.payouts) where
-        twelfth : placedVerdict (fields file) here (length lent) ≡ refused 12 0
-        unfolding backedVerdict
+        twelfth : placed_verdict (fields file) here (length lent) ≡ refused 12 0
+        unfolding backed_verdict
         twelfth = past h ∙ cc (all, le-leb en.total 64 g, v.many, lt-leb (3 * en.payouts) (length lent) o)
 
         pub told-twelfth : told (Refused 12 0)
@@ -99,8 +99,8 @@ module _ (file : List ℕ) (en : Entry) (v : Read file en) (lent : List ℕ) whe
         left-twelfth = (refused-by 12 0 twelfth).1
 
       module _ (o : 3 * en.payouts ≤ length lent) where
-        matched : placedVerdict (fields file) here (length lent) ≡ matching (fields file) this
-        unfolding backedVerdict
+        matched : placed_verdict (fields file) here (length lent) ≡ matching (fields file) this
+        unfolding backed_verdict
         matched = past h ∙ cc (all, le-leb en.total 64 g, v.many, le-leb (3 * en.payouts) (length lent) o)
 
         pub told-matched : (x : CodedVerdict) → x ≡ coded (spare this) (matching (fields file) this) → told x
@@ -114,8 +114,8 @@ module _ (file : List ℕ) (en : Entry) (v : Read file en) (lent : List ℕ) whe
           nothing-paid : payouts this ≡ []
           nothing-paid = no-elements (payouts this) (sym v.many ∙ z)
 
-          nothing-matched : placedVerdict (fields file) here (length lent) ≡ accepted []
-          unfolding matching matchFrom
+          nothing-matched : placed_verdict (fields file) here (length lent) ≡ accepted []
+          unfolding matching match_from
           nothing-matched = matched ∙ rw (matching, nothing-paid)
 
           pub told-unpaid : told (Accepted 0 en.total)
@@ -128,37 +128,37 @@ module _ (file : List ℕ) (en : Entry) (v : Read file en) (lent : List ℕ) whe
 
 -- the entry that was read is the one at the place
 module _ (file : List ℕ) (n place : ℕ) (e : n ≡ place) where
-  pub told-there : (lent : ℕ) (x : CodedVerdict) → x ≡ placedAnswer file n lent → x ≡ placedAnswer file place lent
+  pub told-there : (lent : ℕ) (x : CodedVerdict) → x ≡ placed_answer file n lent → x ≡ placed_answer file place lent
   told-there lent x f = rw (← e) f
 
-  pub left_there : (t u : List ℕ) → t ≡ placedCovers file n u → t ≡ placedCovers file place u
+  pub left_there : (t u : List ℕ) → t ≡ placed_covers file n u → t ≡ placed_covers file place u
   left_there t u f = rw (← e) f
 
 -- Question 9
 
 module _ (file : List ℕ) (n : ℕ) (r : Place) (e : Found file n r) (lent : List ℕ) where
   module _ (f : r ≡ Nowhere) where
-    ninth-refused : entryVerdict (fields file) n (length lent) ≡ refused 9 0
+    ninth-refused : entry_verdict (fields file) n (length lent) ≡ refused 9 0
     ninth-refused = ninth (fields file) n (length lent) (entry-missing file n r e f)
 
-    pub told-ninth : Refused 9 0 ≡ entryAnswer file n (length lent)
-    told-ninth = told-refused (entryVerdict (fields file) n (length lent)) 9 0 ninth-refused (spare (entry_at (fields file) n).this)
+    pub told-ninth : Refused 9 0 ≡ entry_answer file n (length lent)
+    told-ninth = told-refused (entry_verdict (fields file) n (length lent)) 9 0 ninth-refused (spare (entry_at (fields file) n).this)
 
-    pub left-ninth : lent ≡ entryCovers file n lent
-    left-ninth = left-refused (entryVerdict (fields file) n (length lent)) 9 0 ninth-refused lent
+    pub left-ninth : lent ≡ entry_covers file n lent
+    left-ninth = left-refused (entry_verdict (fields file) n (length lent)) 9 0 ninth-refused lent
 
   module _ (place : ℕ) (f : r ≡ At place) where
     there : entry_at (fields file) n ≡ placed_at file place
     there = entry-there file n r e place f
 
-    past-ninth : entryVerdict (fields file) n (length lent) ≡ placedVerdict (fields file) (placed_at file place) (length lent)
+    past-ninth : entry_verdict (fields file) n (length lent) ≡ placed_verdict (fields file) (placed_at file place) (length lent)
     past-ninth = not-ninth (fields file) n (length lent) (entry-counted file n r e place f) (placed_at file place) there
 
     pub place_inside : place ≤ length file
     place_inside = e.inside place f
 
-    pub told-placed : (x : CodedVerdict) → x ≡ placedAnswer file place (length lent) → x ≡ entryAnswer file n (length lent)
+    pub told-placed : (x : CodedVerdict) → x ≡ placed_answer file place (length lent) → x ≡ entry_answer file n (length lent)
     told-placed x g = rw (past-ninth, there) g
 
-    pub left-placed : (left : List ℕ) → left ≡ placedCovers file place lent → left ≡ entryCovers file n lent
+    pub left-placed : (left : List ℕ) → left ≡ placed_covers file place lent → left ≡ entry_covers file n lent
     left-placed left g = rw past-ninth g

@@ -3,19 +3,19 @@ use Rattle.std.proofs.Common.{ℕ, ◌+◌, ◌*◌, ◌≤◌, ◌<◌, ◌≡�
 use Rattle.fields.specs.Field.{fields}
 use Rattle.fields.specs.Table.{Listed}
 use Rattle.walking.specs.Table.{placed_at}
-use Rattle.guards.specs.Asked.{inflowAmounts}
+use Rattle.guards.specs.Asked.{inflow_amounts}
 use Rattle.walking.specs.Walking.{payouts}
 use Rattle.entries.specs.Entered.{Lent, Entered, entry_of}
 use Rattle.entries.specs.declared.entry.Entry.{Entry}
 use Rattle.entries.proofs.Reading.{table-long}
-use Rattle.reserves.specs.Candidates.{Candidates, candidateNumbers}
+use Rattle.reserves.specs.Candidates.{Candidates, candidate_numbers}
 use Rattle.reserves.specs.Holding.{Facts}
 use Rattle.reserves.proofs.Counting.{candidates-listed}
 use Rattle.reserves.proofs.Searching.{candidates-room}
 use Rattle.matching.specs.Prepared.{Prepared}
 
 module _ (file : List ℕ) (place : ℕ) (asked : List ℕ) (count : ℕ) (w : count ≤ length asked) (table last : List ℕ) (r : ℕ)
-    (p : Listed (candidateNumbers (fields file) (inflowAmounts file place asked count) (placed_at file place)) table 0 last r) (h : length file ≤ 3 * length table) where
+    (p : Listed (candidate_numbers (fields file) (inflow_amounts file place asked count) (placed_at file place)) table 0 last r) (h : length file ≤ 3 * length table) where
   listed : Candidates file place asked count last r
   listed = candidates-listed file place asked count w table last r p h
 
@@ -37,7 +37,7 @@ pub payouts-room : (file : List ℕ) (en : Entry) → Entered file en → en.pay
 payouts-room file en d = table-long file en.paid en.payouts (payouts (entry_of file en.place)) d.paid d.many
 
 module _ (file : List ℕ) (en : Entry) (d : Entered file en) (table : List ℕ) (lent : Lent file en.place table) (last : List ℕ) (r : ℕ)
-    (p : Listed (candidateNumbers (fields file) (inflowAmounts file en.place en.paid en.payouts) (placed_at file en.place)) table 0 last r) where
+    (p : Listed (candidate_numbers (fields file) (inflow_amounts file en.place en.paid en.payouts) (placed_at file en.place)) table 0 last r) where
   pub candidates-fit : r ≤ length last
   candidates-fit = numbers_fit file en.place en.paid en.payouts (payouts-room file en d) table last r p lent.room
 

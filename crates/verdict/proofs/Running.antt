@@ -7,17 +7,17 @@ use Rattle.walking.specs.Walking.{payouts}
 use Rattle.entries.specs.Entered.{Entered, entry_of}
 use Rattle.entries.specs.declared.entry.Entry.{Entry}
 use Rattle.entries.proofs.Reading.{field-there}
-use Rattle.tokens.specs.Numbers.{notYet}
+use Rattle.tokens.specs.Numbers.{not_yet}
 use Rattle.reserves.specs.Holding.{Facts}
 use Rattle.backings.specs.Tables.{Admitted}
-use Rattle.backings.specs.Marked.{allFree}
+use Rattle.backings.specs.Marked.{all_free}
 use Rattle.backings.specs.declared.marks.Marks.{Marks as Coded}
 use Rattle.backings.proofs.Reading.{admits-nothing}
 use Rattle.matching.specs.Matching.{Cover, Reason, Marks, answer, start}
 use Rattle.matching.specs.Matching.Answer.{cover, rejection}
-use Rattle.matching.specs.Standing.{backingsOf, Stands}
-use Rattle.matching.specs.Prepared.{Prepared, Ready, payoutAt}
-use Rattle.matching.specs.Coded.{coverOf, reasonOf, codedReason, answer_of, Answers, AnswersFor}
+use Rattle.matching.specs.Standing.{backings_of, Stands}
+use Rattle.matching.specs.Prepared.{Prepared, Ready, payout_at}
+use Rattle.matching.specs.Coded.{cover_of, reason_of, coded_reason, answer_of, Answers, AnswersFor}
 use Rattle.matching.specs.declared.answer.Cover.{Cover as CodedCover}
 use Rattle.matching.specs.declared.answer.Reason.{Reason as CodedReason}
 use Rattle.matching.specs.declared.answer.Answer.TheVariants.{Covered, Rejected}
@@ -27,27 +27,27 @@ use Rattle.matching.proofs.Backed.{backings-many}
 use Rattle.matching.proofs.Covering.{coded-back}
 use Rattle.matching.proofs.Kept.{start-stands}
 use Rattle.matching.proofs.Ways.{Step, a-step}
-use Rattle.claim.specs.Verdict.{Verdict, rejected, accepted, withCover, matchFrom, matching, backingCount, spare, kind, index, sheet, written}
+use Rattle.claim.specs.Verdict.{Verdict, rejected, accepted, with_cover, match_from, matching, backing_count, spare, kind, index, sheet, written}
 use Rattle.claim.proofs.Backs.{Within, step-backs, step-within}
 use Rattle.claim.proofs.Fitting.{backs-below, few-states}
-use Rattle.verdict.specs.Sheet.{coverBytes}
-use Rattle.verdict.specs.Coded.{coded, matchedAnswer, matchedCovers}
+use Rattle.verdict.specs.Sheet.{cover_bytes}
+use Rattle.verdict.specs.Coded.{coded, matched_answer, matched_covers}
 use Rattle.verdict.specs.declared.entry.Verdict.TheVariants.{Rejected as CodedRejected, Accepted as CodedAccepted}
 
 -- covers in front of those of the later payouts
-abbrev withCovers : List Cover → Verdict → Verdict
-withCovers [] v = v
-withCovers (c ∷ cs) v = withCover c (withCovers cs v)
+abbrev with_covers : List Cover → Verdict → Verdict
+with_covers [] v = v
+with_covers (c ∷ cs) v = with_cover c (with_covers cs v)
 
-one_more : (cs : List Cover) (c : Cover) (v : Verdict) → withCovers cs (withCover c v) ≡ withCovers (cs ++ c ∷ []) v
+one_more : (cs : List Cover) (c : Cover) (v : Verdict) → with_covers cs (with_cover c v) ≡ with_covers (cs ++ c ∷ []) v
 one_more [] c v = refl
-one_more (d ∷ cs) c v = ap (withCover d) (one_more cs c v)
+one_more (d ∷ cs) c v = ap (with_cover d) (one_more cs c v)
 
-still-rejected : (cs : List Cover) (n : ℕ) (r : Reason) → withCovers cs (rejected n r) ≡ rejected n r
+still-rejected : (cs : List Cover) (n : ℕ) (r : Reason) → with_covers cs (rejected n r) ≡ rejected n r
 still-rejected [] n r = refl
 still-rejected (c ∷ cs) n r = rw (still-rejected cs n r)
 
-all-covered : (cs ds : List Cover) → withCovers cs (accepted ds) ≡ accepted (cs ++ ds)
+all-covered : (cs ds : List Cover) → with_covers cs (accepted ds) ≡ accepted (cs ++ ds)
 all-covered [] ds = refl
 all-covered (c ∷ cs) ds = rw (all-covered cs ds)
 
@@ -62,8 +62,8 @@ sheet-long [] = refl
 sheet-long (c ∷ cs) = rw (sheet-long cs) (omega arith)
 
 -- an index below 65,536 is kept whole
-bytes_of : (c : Cover) → index c < 65536 → coverBytes c ≡ sheet (c ∷ [])
-unfolding coverBytes sheet
+bytes_of : (c : Cover) → index c < 65536 → cover_bytes c ≡ sheet (c ∷ [])
+unfolding cover_bytes sheet
 bytes_of c h = let e : index c / 256 % 256 ≡ index c / 256 = omega (arith, h) in rw e
 
 -- three more bytes
@@ -88,20 +88,20 @@ pub record Running (file : List ℕ) (en : Entry) (candidates start facts lent s
   pub room : length file ≤ 3 * length lent
   pub admits : Admitted (drop en.place file) pass.admitted
   pub uses : pass.marks.uses ≤ k
-  pub stands : Stands (backingsOf file en.place) pass.marks state
+  pub stands : Stands (backings_of file en.place) pass.marks state
   pub within : Within (fields file) (entry_of file en.place) state
   pub many : length done ≡ k
   pub wide : length bytes ≡ 192
   pub first : take (3 * k) bytes ≡ sheet done
   pub rest : matching (fields file) (entry_of file en.place)
-      ≡ withCovers done (matchFrom (fields file) (entry_of file en.place) state k (drop k (payouts (entry_of file en.place))))
+      ≡ with_covers done (match_from (fields file) (entry_of file en.place) state k (drop k (payouts (entry_of file en.place))))
 
 module _ (file : List ℕ) (en : Entry) (candidates : List ℕ) where
-  pub running_none : (facts lent : List ℕ) → Prepared file en candidates facts → length file ≤ 3 * length lent → (m : Coded) → m ≡ allFree →
-      Running file en candidates facts facts lent lent (replicate 192 0) (record { marks = m; admitted = notYet }) 0
-  unfolding start matching sheet allFree
+  pub running_none : (facts lent : List ℕ) → Prepared file en candidates facts → length file ≤ 3 * length lent → (m : Coded) → m ≡ all_free →
+      Running file en candidates facts facts lent lent (replicate 192 0) (record { marks = m; admitted = not_yet }) 0
+  unfolding start matching sheet all_free
   running_none facts lent d room m e =
-      let few : length (backingsOf file en.place) ≤ 64 = omega (arith, backings-many file en d.entered, d.entered.few) in
+      let few : length (backings_of file en.place) ≤ 64 = omega (arith, backings-many file en d.entered, d.entered.few) in
       record {
         state = start (fields file) (entry_of file en.place);
         done = [];
@@ -155,7 +155,7 @@ module _ (file : List ℕ) (en : Entry) (candidates : List ℕ) where
       running-next = omega (arith, v.wide, h, d.limit)
 
       abbrev payout : Field
-      payout = payoutAt file en k
+      payout = payout_at file en k
 
       left_over : drop k (payouts entry) ≡ payout ∷ drop (k + 1) (payouts entry)
       left_over =
@@ -168,39 +168,39 @@ module _ (file : List ℕ) (en : Entry) (candidates : List ℕ) where
       running-kept last right = right.funded.long ∙ sym v.prepared.known.funded.long ∙ v.held
 
       module _ (r : Answered) (a : AnswersFor file en pass.marks k r) where
-        answers : Answers model entry (backingsOf file en.place) v.state payout r
+        answers : Answers model entry (backings_of file en.place) v.state payout r
         answers = a v.state v.stands
 
         -- a rejection is the verdict
         module _ (q : CodedReason) (g : r.answer ≡ Rejected q) where
-          running-rejected : matching model entry ≡ rejected k (reasonOf q)
-          unfolding matchFrom
+          running-rejected : matching model entry ≡ rejected k (reason_of q)
+          unfolding match_from
           running-rejected =
-              let same : answer model entry v.state payout ≡ rejection (reasonOf q) = answers.same ∙ ap (λ x. answer_of x answers.after) g in
-              v.rest ∙ rw (left_over, matchFrom, same) (still-rejected v.done k (reasonOf q))
+              let same : answer model entry v.state payout ≡ rejection (reason_of q) = answers.same ∙ ap (λ x. answer_of x answers.after) g in
+              v.rest ∙ rw (left_over, match_from, same) (still-rejected v.done k (reason_of q))
 
-          pub rejected-coded : CodedRejected k q ≡ matchedAnswer file en.place
+          pub rejected-coded : CodedRejected k q ≡ matched_answer file en.place
           unfolding coded
           rejected-coded = rw (running-rejected, coded-back q)
 
-          pub rejected-unwritten : (t : List ℕ) → t ≡ matchedCovers file en.place t
+          pub rejected-unwritten : (t : List ℕ) → t ≡ matched_covers file en.place t
           unfolding written
           rejected-unwritten t = rw running-rejected
 
         -- a cover is one more
         module _ (c : CodedCover) (g : r.answer ≡ Covered c) where
-          same : answer model entry v.state payout ≡ cover (coverOf c) answers.after
+          same : answer model entry v.state payout ≡ cover (cover_of c) answers.after
           same = answers.same ∙ ap (λ x. answer_of x answers.after) g
 
-          step : Step model entry v.state payout (coverOf c) answers.after
-          step = a-step model entry v.state answers.after payout (coverOf c) same
+          step : Step model entry v.state payout (cover_of c) answers.after
+          step = a-step model entry v.state answers.after payout (cover_of c) same
 
-          index-small : index (coverOf c) < 65536
-          unfolding backingCount
+          index-small : index (cover_of c) < 65536
+          unfolding backing_count
           index-small =
               omega (
                 arith,
-                backs-below model entry payout (kind (coverOf c)) (index (coverOf c)) (step-backs model entry v.state v.within payout (coverOf c) answers.after step),
+                backs-below model entry payout (kind (cover_of c)) (index (cover_of c)) (step-backs model entry v.state v.within payout (cover_of c) answers.after step),
                 few-states file,
                 d.small,
                 d.counted,
@@ -208,20 +208,20 @@ module _ (file : List ℕ) (en : Entry) (candidates : List ℕ) where
                 d.few,
               )
 
-          rest-on : matching model entry ≡ withCovers (v.done ++ coverOf c ∷ []) (matchFrom model entry answers.after (k + 1) (drop (k + 1) (payouts entry)))
-          unfolding matchFrom
+          rest-on : matching model entry ≡ with_covers (v.done ++ cover_of c ∷ []) (match_from model entry answers.after (k + 1) (drop (k + 1) (payouts entry)))
+          unfolding match_from
           rest-on =
               let next : k + 1 ≡ suc k = omega arith in
-              v.rest ∙ rw (left_over, matchFrom, same, next) (one_more v.done (coverOf c) (matchFrom model entry answers.after (suc k) (drop (suc k) (payouts entry))))
+              v.rest ∙ rw (left_over, match_from, same, next) (one_more v.done (cover_of c) (match_from model entry answers.after (suc k) (drop (suc k) (payouts entry))))
 
           pub running-on : r.pass.marks.uses ≤ pass.marks.uses + 1 → (last : List ℕ) → Facts file last → (used : List ℕ) → length used ≡ length scratch →
-              (next : Pass) → next ≡ r.pass → Admitted (drop en.place file) r.pass.admitted → (u : List ℕ) → u ≡ sets bytes (3 * k) (coverBytes (coverOf c)) →
+              (next : Pass) → next ≡ r.pass → Admitted (drop en.place file) r.pass.admitted → (u : List ℕ) → u ≡ sets bytes (3 * k) (cover_bytes (cover_of c)) →
               Running file en candidates start last lent used u next (k + 1)
           running-on less last right used same-used next z admits u w =
-              let three : u ≡ sets bytes (3 * k) (sheet (coverOf c ∷ [])) = w ∙ ap (λ l. sets bytes (3 * k) l) (bytes_of (coverOf c) index-small) in
+              let three : u ≡ sets bytes (3 * k) (sheet (cover_of c ∷ [])) = w ∙ ap (λ l. sets bytes (3 * k) l) (bytes_of (cover_of c) index-small) in
               record {
                 state = answers.after;
-                done = v.done ++ coverOf c ∷ [];
+                done = v.done ++ cover_of c ∷ [];
                 reached = omega (arith, h);
                 prepared = record { entered = d; listed = v.prepared.listed; known = right };
                 held = running-kept last right;
@@ -230,28 +230,28 @@ module _ (file : List ℕ) (en : Entry) (candidates : List ℕ) where
                 admits = rw z admits;
                 uses = rw z (omega (arith, less, v.uses));
                 stands = rw z answers.stands;
-                within = step-within model entry v.state payout (coverOf c) answers.after v.within step;
-                many = rw (length-append v.done (coverOf c ∷ [])) (omega (arith, v.many));
-                wide = rw three (length-sets bytes (3 * k) (sheet (coverOf c ∷ [])) ∙ v.wide);
-                first = written_on v.done (coverOf c) bytes u k v.many v.first (omega (arith, v.wide, h, d.limit)) three;
+                within = step-within model entry v.state payout (cover_of c) answers.after v.within step;
+                many = rw (length-append v.done (cover_of c ∷ [])) (omega (arith, v.many));
+                wide = rw three (length-sets bytes (3 * k) (sheet (cover_of c ∷ [])) ∙ v.wide);
+                first = written_on v.done (cover_of c) bytes u k v.many v.first (omega (arith, v.wide, h, d.limit)) three;
                 rest = rest-on;
               }
 
     -- at the end each payout has its cover
     running-done : en.payouts ≤ k → matching model entry ≡ accepted v.done
-    unfolding matchFrom
+    unfolding match_from
     running-done h =
         let none : drop k (payouts entry) ≡ [] = drop_of_length-le (payouts entry) {i = k} (omega (arith, h, d.many)) in
-        v.rest ∙ rw (none, matchFrom) (all-covered v.done [] ∙ rw append-nil)
+        v.rest ∙ rw (none, match_from) (all-covered v.done [] ∙ rw append-nil)
 
     module _ (h : en.payouts ≤ k) where
-      pub done_coded : (rest : ℕ) → rest ≡ en.total - en.payouts → CodedAccepted en.payouts rest ≡ matchedAnswer file en.place
-      unfolding coded spare backingCount
+      pub done_coded : (rest : ℕ) → rest ≡ en.total - en.payouts → CodedAccepted en.payouts rest ≡ matched_answer file en.place
+      unfolding coded spare backing_count
       done_coded rest e =
           let i : rest ≡ spare entry = omega (arith, e, d.all, d.counted, d.many) in
           rw (running-done h, ← i) (ap (λ n. CodedAccepted n rest) (omega (arith, h, v.reached, v.many)))
 
-      pub done-written : (covers left : List ℕ) → left ≡ take (3 * en.payouts) bytes ++ drop (3 * en.payouts) covers → left ≡ matchedCovers file en.place covers
+      pub done-written : (covers left : List ℕ) → left ≡ take (3 * en.payouts) bytes ++ drop (3 * en.payouts) covers → left ≡ matched_covers file en.place covers
       unfolding written
       done-written covers left e =
           let c : en.payouts ≡ k = omega (arith, h, v.reached) in

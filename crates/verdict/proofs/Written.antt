@@ -3,7 +3,7 @@ use Rattle.std.proofs.Common.{ℕ, zero, suc, ◌+◌, ◌*◌, ◌/◌, ◌%◌
 use lib.Seq.{sets, paste, paste-zero, paste-suc, length-paste}
 use Rattle.matching.specs.Matching.{Cover}
 use Rattle.claim.specs.Verdict.{kind, index}
-use Rattle.verdict.specs.Sheet.{coverBytes}
+use Rattle.verdict.specs.Sheet.{cover_bytes}
 
 module _ (t : List ℕ) (k : ℕ) (h : 3 * k + 3 ≤ length t) (a : ℕ) where
   pub second-there : 3 * k + 1 < length (set t (3 * k) a)
@@ -13,8 +13,8 @@ module _ (t : List ℕ) (k : ℕ) (h : 3 * k + 3 ≤ length t) (a : ℕ) where
   third-there b = rw (length-set (set t (3 * k) a) (3 * k + 1) b, length-set t (3 * k) a) (omega (arith, h))
 
   pub three-written : (cover : Cover) → a ≡ kind cover → (i : ℕ) → i ≡ index cover →
-      set (set (set t (3 * k) a) (3 * k + 1) (i / 256 % 256)) (3 * k + 2) (i % 256) ≡ sets t (3 * k) (coverBytes cover)
-  unfolding coverBytes
+      set (set (set t (3 * k) a) (3 * k + 1) (i / 256 % 256)) (3 * k + 2) (i % 256) ≡ sets t (3 * k) (cover_bytes cover)
+  unfolding cover_bytes
   three-written cover e i f =
       let one : 3 * k + 1 ≡ suc (3 * k) = omega arith in
       let two : 3 * k + 2 ≡ suc (suc (3 * k)) = omega arith in

@@ -4,5 +4,5 @@ use Rattle.matching.specs.Matching.{Cover}
 use Rattle.claim.specs.Verdict.{kind, index}
 
 -- the kind, and the index in two bytes, most significant first; an index below 65,536 is kept whole
-unfoldable pub coverBytes : Cover → List ℕ
-coverBytes c = kind c ∷ index c / 256 % 256 ∷ index c % 256 ∷ []
+unfoldable pub cover_bytes : Cover → List ℕ
+cover_bytes c = kind c ∷ index c / 256 % 256 ∷ index c % 256 ∷ []

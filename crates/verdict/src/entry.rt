@@ -5,7 +5,7 @@ ghost use Rattle.entries.specs.Entered.{Lent, Read, Entered};
 ghost use Rattle.reserves.specs.Holding.{Facts, Known};
 ghost use Rattle.matching.specs.Prepared.{Prepared};
 ghost use Rattle.verdict.specs.Place.{Found};
-ghost use Rattle.verdict.specs.Coded.{placedAnswer, placedCovers, matchedAnswer, matchedCovers, entryAnswer, entryCovers};
+ghost use Rattle.verdict.specs.Coded.{placed_answer, placed_covers, matched_answer, matched_covers, entry_answer, entry_covers};
 
 use super::sheet::{copy_sheet, write_cover};
 use backings::marks::all_free;
@@ -56,8 +56,8 @@ fn match_payouts(
     requires prepared { Prepared file.now entry candidates.now facts.old }
     requires scratch { length file.now ≤ 3 * length scratch.old }
     requires room { 3 * entry.payouts ≤ length covers.old }
-    ensures answer { result ≡ matchedAnswer file.now entry.place }
-    ensures covers { covers.new ≡ matchedCovers file.now entry.place covers.old }
+    ensures answer { result ≡ matched_answer file.now entry.place }
+    ensures covers { covers.new ≡ matched_covers file.now entry.place covers.old }
     ensures facts { Facts file.now facts.new }
 {
     let mut sheet = [0u8; 192];
@@ -118,8 +118,8 @@ fn cover_payouts(
     requires table { Lent file.now entry.place table.old }
     requires known { Known file.now facts.old scratch.old }
     requires room { 3 * entry.payouts ≤ length covers.old }
-    ensures answer { result ≡ matchedAnswer file.now entry.place }
-    ensures covers { covers.new ≡ matchedCovers file.now entry.place covers.old }
+    ensures answer { result ≡ matched_answer file.now entry.place }
+    ensures covers { covers.new ≡ matched_covers file.now entry.place covers.old }
     ensures facts { Facts file.now facts.new }
 {
     let count = list_candidates(file, entry, table, scratch);
@@ -139,8 +139,8 @@ fn asked_verdict(
     requires read { Read file.now entry }
     requires table { Lent file.now entry.place table.old }
     requires known { Known file.now facts.old scratch.old }
-    ensures answer { result ≡ placedAnswer file.now entry.place (length covers.old) }
-    ensures covers { covers.new ≡ placedCovers file.now entry.place covers.old }
+    ensures answer { result ≡ placed_answer file.now entry.place (length covers.old) }
+    ensures covers { covers.new ≡ placed_covers file.now entry.place covers.old }
     ensures facts { Facts file.now facts.new }
 {
     if 64 < entry.payouts {
@@ -182,8 +182,8 @@ pub fn placed_verdict(
 ) -> Verdict
     requires table { Lent file.now place table.old }
     requires known { Known file.now facts.old scratch.old }
-    ensures answer { result ≡ placedAnswer file.now place (length covers.old) }
-    ensures covers { covers.new ≡ placedCovers file.now place covers.old }
+    ensures answer { result ≡ placed_answer file.now place (length covers.old) }
+    ensures covers { covers.new ≡ placed_covers file.now place covers.old }
     ensures facts { Facts file.now facts.new }
 {
     let entry = read_entry(file, place, table);
@@ -194,8 +194,8 @@ pub fn placed_verdict(
 fn verdict_at(file: &[u8], place: usize, covers: &mut [u8]) -> Verdict
     requires short { length file.now ≤ 32768 }
     requires inside { place ≤ length file.now }
-    ensures answer { result ≡ placedAnswer file.now place (length covers.old) }
-    ensures covers { covers.new ≡ placedCovers file.now place covers.old }
+    ensures answer { result ≡ placed_answer file.now place (length covers.old) }
+    ensures covers { covers.new ≡ placed_covers file.now place covers.old }
 {
     let mut facts = nothing_known();
     if file.len() <= SHORT_FILE {
@@ -231,8 +231,8 @@ pub fn place_of_entry(file: &[u8], n: usize) -> Place
 // The verdict on the n-th entry of a file that passes question 1.
 pub fn entry_verdict(file: &[u8], n: usize, covers: &mut [u8]) -> Verdict
     requires { length file.now ≤ 32768 }
-    ensures answer { result ≡ entryAnswer file.now n (length covers.old) }
-    ensures covers { covers.new ≡ entryCovers file.now n covers.old }
+    ensures answer { result ≡ entry_answer file.now n (length covers.old) }
+    ensures covers { covers.new ≡ entry_covers file.now n covers.old }
 {
     match place_of_entry(file, n) {
         Place::Nowhere => Verdict::Refused {

@@ -2,16 +2,16 @@
 // Covers as bytes: three a payout.
 ghost use Rattle.std.specs.Prelude.{◌≡◌, ◌++◌, ◌+◌, ◌*◌, ◌≤◌, length, take, drop};
 ghost use Rattle.std.proofs.lemmas.List.Edits.{sets};
-ghost use Rattle.matching.specs.Coded.{coverOf};
+ghost use Rattle.matching.specs.Coded.{cover_of};
 ghost use Rattle.claim.specs.Verdict.{kind, index};
-ghost use Rattle.verdict.specs.Sheet.{coverBytes};
+ghost use Rattle.verdict.specs.Sheet.{cover_bytes};
 
 use fields::bytes::byte_at;
 use matching::answer::Cover;
 
 // The kind of a cover.
 fn kind_of(cover: Cover) -> u8
-    ensures { result ≡ kind (coverOf cover) }
+    ensures { result ≡ kind (cover_of cover) }
 {
     match cover {
         Cover::EqualDebit { index: _ } => 1,
@@ -24,7 +24,7 @@ fn kind_of(cover: Cover) -> u8
 
 // Its index.
 fn index_of(cover: Cover) -> usize
-    ensures { result ≡ index (coverOf cover) }
+    ensures { result ≡ index (cover_of cover) }
 {
     match cover {
         Cover::EqualDebit { index } => index,
@@ -38,7 +38,7 @@ fn index_of(cover: Cover) -> usize
 // Writes the three bytes of a cover as the k-th of a sheet.
 pub fn write_cover(cover: Cover, sheet: &mut [u8], k: usize) -> usize
     requires { 3 * k + 3 ≤ length sheet.old }
-    ensures { sheet.new ≡ sets sheet.old (3 * k) (coverBytes (coverOf cover)) }
+    ensures { sheet.new ≡ sets sheet.old (3 * k) (cover_bytes (cover_of cover)) }
 {
     let at = 3 * k;
     let index = index_of(cover);

@@ -1,27 +1,27 @@
 -- Asset parameters are met one after the other: those that are left behind the one at hand are all that are left.
 use Rattle.std.proofs.Common.{ℕ, ◌+◌, ◌^◌, ◌≤◌, ◌<◌, ◌≡◌, ap, true, false, List, [], ◌∷◌, map, arith, w64, Fits, length, take, drop, length-take, length-drop}
 use Rattle.laws.specs.Lists.{any}
-use Rattle.laws.specs.Texts.{sameBytes}
+use Rattle.laws.specs.Texts.{same_bytes}
 use Rattle.fields.specs.Field.{fields, whole, after, front, parts, sizes}
 use Rattle.fields.proofs.Reading.{after_less, after-shorter}
 use Rattle.model.specs.Model.{name_of, params}
-use Rattle.walking.specs.Walking.{assetParams}
-use Rattle.walking.specs.Assets.{assetsIn, assetsFrom}
+use Rattle.walking.specs.Walking.{asset_params}
+use Rattle.walking.specs.Assets.{assets_in, assets_from}
 
 -- Going through the asset parameters of the entry at the front of s, from t on
 
 -- x is where the parts of the entry start
-assets-all : (s x t : List ℕ) → fields x ≡ parts (front s) → assetsIn (fields x) ≡ assetsFrom t → map name_of (assetsFrom t) ≡ assetParams (front s)
-unfolding assetParams params
+assets-all : (s x t : List ℕ) → fields x ≡ parts (front s) → assets_in (fields x) ≡ assets_from t → map name_of (assets_from t) ≡ asset_params (front s)
+unfolding asset_params params
 assets-all s x t e f = rw (← f, e)
 
 -- none is left
-names-none : (t : List ℕ) → whole t ≡ false → map name_of (assetsFrom t) ≡ []
+names-none : (t : List ℕ) → whole t ≡ false → map name_of (assets_from t) ≡ []
 names-none t w = rw w
 
-module _ (t y u : List ℕ) (w : whole t ≡ true) (e : y ≡ after t) (f : assetsIn (fields y) ≡ assetsFrom u) where
+module _ (t y u : List ℕ) (w : whole t ≡ true) (e : y ≡ after t) (f : assets_in (fields y) ≡ assets_from u) where
   -- one, and those that are left behind it
-  names-next : map name_of (assetsFrom t) ≡ name_of (front t) ∷ map name_of (assetsFrom u)
+  names-next : map name_of (assets_from t) ≡ name_of (front t) ∷ map name_of (assets_from u)
   names-next = rw (w, ← e, f)
 
   pub assets-fall : length u ≤ length y → length u < length t
@@ -29,46 +29,46 @@ module _ (t y u : List ℕ) (w : whole t ≡ true) (e : y ≡ after t) (f : asse
 
 -- looking for a name: it is among those that are left, or nowhere
 abbrev pub Unfound : List ℕ → List ℕ → List ℕ → Type 0
-Unfound s name t = any (sameBytes name) (map name_of (assetsFrom t)) ≡ any (sameBytes name) (assetParams (front s))
+Unfound s name t = any (same_bytes name) (map name_of (assets_from t)) ≡ any (same_bytes name) (asset_params (front s))
 
-pub unfound-first : (s name x t : List ℕ) → fields x ≡ parts (front s) → assetsIn (fields x) ≡ assetsFrom t → Unfound s name t
-unfound-first s name x t e f = ap (any (sameBytes name)) (assets-all s x t e f)
+pub unfound-first : (s name x t : List ℕ) → fields x ≡ parts (front s) → assets_in (fields x) ≡ assets_from t → Unfound s name t
+unfound-first s name x t e f = ap (any (same_bytes name)) (assets-all s x t e f)
 
 module _ (s name t : List ℕ) (i : Unfound s name t) where
-  pub unfound-none : whole t ≡ false → false ≡ any (sameBytes name) (assetParams (front s))
+  pub unfound-none : whole t ≡ false → false ≡ any (same_bytes name) (asset_params (front s))
   unfolding any
   unfound-none w = rw (names-none t w) at i
 
   module _ (w : whole t ≡ true) (x : List ℕ) (h : x ≡ name_of (front t)) where
-    pub unfound-found : sameBytes name x ≡ true → true ≡ any (sameBytes name) (assetParams (front s))
+    pub unfound-found : same_bytes name x ≡ true → true ≡ any (same_bytes name) (asset_params (front s))
     unfolding any
     unfound-found k = rw (w, ← h, k) at i
 
-    pub unfound-on : sameBytes name x ≡ false → (y u : List ℕ) → y ≡ after t → assetsIn (fields y) ≡ assetsFrom u → Unfound s name u
+    pub unfound-on : same_bytes name x ≡ false → (y u : List ℕ) → y ≡ after t → assets_in (fields y) ≡ assets_from u → Unfound s name u
     unfolding any
     unfound-on k y u e f = rw (names-next t y u w e f, ← h, k) at i
 
 -- counting
 pub record Counted (s t : List ℕ) (n : ℕ) : Type 0 where
   pub room : n + length t ≤ length s
-  pub left : n + length (map name_of (assetsFrom t)) ≡ length (assetParams (front s))
+  pub left : n + length (map name_of (assets_from t)) ≡ length (asset_params (front s))
 
 module _ (s t : List ℕ) where
   pub counted_none : (x : List ℕ) → fields x ≡ parts (front s) → x ≡ take (sizes (parts (front s))) (drop 3 s) →
-      assetsIn (fields x) ≡ assetsFrom t → length t ≤ length x → Counted s t 0
+      assets_in (fields x) ≡ assets_from t → length t ≤ length x → Counted s t 0
   counted_none x e g f h =
       let l : length x ≤ length s = rw (g, length-take, length-drop) (omega arith) in
       record { room = omega arith; left = rw (assets-all s x t e f) (omega arith) }
 
   module _ (n : ℕ) (i : Counted s t n) where
-    pub counted-all : whole t ≡ false → n ≡ length (assetParams (front s))
+    pub counted-all : whole t ≡ false → n ≡ length (asset_params (front s))
     counted-all w = omega (arith, rw (names-none t w) at i.left)
 
     module _ (w : whole t ≡ true) where
       pub counted-fits : length s < 2 ^ 64 → Fits w64 (n + 1)
       counted-fits b = omega (arith, i.room, after-shorter t w)
 
-      pub counted-one : (y u : List ℕ) → y ≡ after t → assetsIn (fields y) ≡ assetsFrom u → length u ≤ length y → Counted s u (n + 1)
+      pub counted-one : (y u : List ℕ) → y ≡ after t → assets_in (fields y) ≡ assets_from u → length u ≤ length y → Counted s u (n + 1)
       counted-one y u e f h =
           record {
             room = omega (arith, i.room, after_less t y w e);

@@ -1,12 +1,12 @@
 -- What the answer about a node says of the field at the front of s, and so of `p.amount`.
 use Rattle.std.proofs.Common.{ℕ, ◌+◌, ◌-◌, ◌≤◌, ◌≡◌, refl, sym, ◌∙◌, Bool, true, false, cond, not, ◌&&◌, List, [], arith, eqb-true, leb-true, eqb, length, take, drop}
 use borrow.Author.Tests.{not-true, not-false}
-use Rattle.laws.specs.Texts.{bytes, sameBytes}
+use Rattle.laws.specs.Texts.{bytes, same_bytes}
 use Rattle.laws.proofs.Truths.{and_left, and_right}
 use Rattle.tags.specs.Tag.{Member, Identifier, composite}
 use Rattle.fields.specs.Field.{tag_of, length_of, whole, content, front, tag, text, part}
 use Rattle.fields.proofs.Parts.{tag-front, tag-none, text-front}
-use Rattle.walking.specs.Walking.{ident, assetAmountBacker}
+use Rattle.walking.specs.Walking.{ident, asset_amount_backer}
 use Rattle.walking.specs.Node.{node_of}
 use Rattle.walking.specs.declared.backer.Node.{Node}
 use Rattle.walking.specs.declared.backer.Node.TheVariants.{Found, Other}
@@ -43,25 +43,25 @@ module _ (s : List ℕ) (t : ℕ) (r : Node) (e : r ≡ node_of s t) where
 
 -- `p.amount` part by part
 module _ (s : List ℕ) (r : Node) (e : r ≡ node_of s Member) where
-  pub no_member : r ≡ Other → [] ≡ assetAmountBacker (front s)
-  unfolding assetAmountBacker
+  pub no_member : r ≡ Other → [] ≡ asset_amount_backer (front s)
+  unfolding asset_amount_backer
   no_member f = rw (other_tag s Member r e refl f)
 
   module _ (n : ℕ) (f : r ≡ Found n) (x y : List ℕ) (g : front x ≡ part 1 (front s)) (h : y ≡ text (front x)) (b : Bool)
-      (k : b ≡ sameBytes y (bytes "amount")) where
-    named : assetAmountBacker (front s) ≡ cond b (ident (part 0 (front s))) []
-    unfolding assetAmountBacker
+      (k : b ≡ same_bytes y (bytes "amount")) where
+    named : asset_amount_backer (front s) ≡ cond b (ident (part 0 (front s))) []
+    unfolding asset_amount_backer
     named = rw (tag-there s Member r e n f, ← g, ← h, k)
 
-    pub other_name : not b ≡ true → [] ≡ assetAmountBacker (front s)
+    pub other_name : not b ≡ true → [] ≡ asset_amount_backer (front s)
     other_name i = rw (named, not-true b i)
 
     module _ (i : not b ≡ false) (base : List ℕ) (j : front base ≡ part 0 (front s)) (q : Node) (l : q ≡ node_of base Identifier) where
-      pub no-identifier : q ≡ Other → [] ≡ assetAmountBacker (front s)
+      pub no-identifier : q ≡ Other → [] ≡ asset_amount_backer (front s)
       unfolding ident
       no-identifier m = rw (named, not-false b i, ← j, other_tag base Identifier q l refl m)
 
-      pub the-base : (end : ℕ) → q ≡ Found end → take (end - 3) (drop 3 base) ≡ assetAmountBacker (front s)
+      pub the-base : (end : ℕ) → q ≡ Found end → take (end - 3) (drop 3 base) ≡ asset_amount_backer (front s)
       unfolding ident composite
       the-base end m =
           let w = whole-there base Identifier q l end m in

@@ -4,10 +4,10 @@ use mathlib.Core.List.{flat_map}
 use borrow.Author.Tests.{not-true, not-false}
 use Rattle.laws.specs.Lists.{filter}
 use Rattle.laws.proofs.Lists.{no-elements}
-use Rattle.tags.specs.Tag.{isExpression, isStatement}
+use Rattle.tags.specs.Tag.{is_expression, is_statement}
 use Rattle.fields.specs.Field.{Field, fields, front, nth, tag, parts, size, placed}
 use Rattle.fields.specs.Field.Field.{field}
-use Rattle.walking.specs.Walking.{walk, walkParts, stmtExprs}
+use Rattle.walking.specs.Walking.{walk, walk_parts, stmt_exprs}
 use Rattle.fields.specs.Table.{Listed}
 use Rattle.walking.specs.Table.{places_of}
 use Rattle.fields.proofs.Reading.{fields-end}
@@ -18,64 +18,64 @@ use Rattle.walking.proofs.Places.{places-append, places-cons, places-few}
 
 -- The classes of tags that are visited: 0 does not belong to them
 
-pub expression-zero : isExpression 0 ≡ false
-unfolding isExpression
+pub expression-zero : is_expression 0 ≡ false
+unfolding is_expression
 expression-zero = refl
 
-pub statement-zero : isStatement 0 ≡ false
-unfolding isStatement
+pub statement-zero : is_statement 0 ≡ false
+unfolding is_statement
 statement-zero = refl
 
 -- What is listed of it
 
-walk_step : (n : ℕ) (f : Field) → walk n f ≡ cond (isExpression (tag f)) (record { place = n; this = f } ∷ walkParts (n + 3) (parts f)) []
+walk_step : (n : ℕ) (f : Field) → walk n f ≡ cond (is_expression (tag f)) (record { place = n; this = f } ∷ walk_parts (n + 3) (parts f)) []
 unfolding walk
 walk_step n (field t x ps) = refl
 
 module _ (s : List ℕ) (k wanted : ℕ) (t : List ℕ) (n g : ℕ) (e : g ≡ tag (front s)) (v : Bool) where
-  module _ (c : v ≡ isExpression g) where
+  module _ (c : v ≡ is_expression g) where
     pub no-expression : not v ≡ true → Listed (places_of wanted (walk k (front s))) t n t n
     unfolding filter
     no-expression h = rw (walk_step k (front s), ← e, ← c, not-true v h) (listed-none t n)
 
     pub expression-parts : not v ≡ false → (u : List ℕ) (m : ℕ) → Listed (cond (eqb g wanted) (k % 65536 ∷ []) []) t n u m →
-        (x : List ℕ) → fields x ≡ parts (front s) → (z : List ℕ) (r : ℕ) → Listed (places_of wanted (walkParts (k + 3) (fields x))) u m z r →
+        (x : List ℕ) → fields x ≡ parts (front s) → (z : List ℕ) (r : ℕ) → Listed (places_of wanted (walk_parts (k + 3) (fields x))) u m z r →
         Listed (places_of wanted (walk k (front s))) t n z r
     expression-parts h u m p x f z r q =
-        rw (walk_step k (front s), ← e, ← c, not-false v h, places-cons wanted (record { place = k; this = front s }) (walkParts (k + 3) (parts (front s))), ← e, ← f) (listed_then _ _ t u z n m r p q)
+        rw (walk_step k (front s), ← e, ← c, not-false v h, places-cons wanted (record { place = k; this = front s }) (walk_parts (k + 3) (parts (front s))), ← e, ← f) (listed_then _ _ t u z n m r p q)
 
     pub expression-alone : not v ≡ false → (u : List ℕ) (m : ℕ) → Listed (cond (eqb g wanted) (k % 65536 ∷ []) []) t n u m →
         (x : List ℕ) → fields x ≡ parts (front s) → length x ≡ 0 → Listed (places_of wanted (walk k (front s))) t n u m
-    unfolding walkParts filter
+    unfolding walk_parts filter
     expression-alone h u m p x f l = expression-parts h u m p x f u m (rw (no-elements x l, fields-end [] refl) (listed-none u m))
 
-  module _ (c : v ≡ isStatement g) where
-    pub no-statement : not v ≡ true → Listed (places_of wanted (stmtExprs (record { place = k; this = front s }))) t n t n
-    unfolding filter stmtExprs
+  module _ (c : v ≡ is_statement g) where
+    pub no-statement : not v ≡ true → Listed (places_of wanted (stmt_exprs (record { place = k; this = front s }))) t n t n
+    unfolding filter stmt_exprs
     no-statement h = rw (← e, ← c, not-true v h) (listed-none t n)
 
     pub statement-parts : not v ≡ false → (x : List ℕ) → fields x ≡ parts (front s) → (z : List ℕ) (r : ℕ) →
-        Listed (places_of wanted (walkParts (k + 3) (fields x))) t n z r → Listed (places_of wanted (stmtExprs (record { place = k; this = front s }))) t n z r
-    unfolding stmtExprs
+        Listed (places_of wanted (walk_parts (k + 3) (fields x))) t n z r → Listed (places_of wanted (stmt_exprs (record { place = k; this = front s }))) t n z r
+    unfolding stmt_exprs
     statement-parts h x f z r q = rw (← e, ← c, not-false v h, ← f) q
 
 -- Along a row of fields
 
-pub expressions : (wanted : ℕ) → Row (λ n fs. places_of wanted (walk n (nth 0 fs))) (λ n fs. places_of wanted (walkParts n fs))
-unfolding walkParts nth filter
+pub expressions : (wanted : ℕ) → Row (λ n fs. places_of wanted (walk n (nth 0 fs))) (λ n fs. places_of wanted (walk_parts n fs))
+unfolding walk_parts nth filter
 expressions wanted =
     record {
       none = λ n r. refl;
-      more = λ n f fs. places-append wanted (walk n f) (walkParts (n + size f) fs);
+      more = λ n f fs. places-append wanted (walk n f) (walk_parts (n + size f) fs);
       few = λ n f fs. omega (arith, places-few wanted n (n + size f) (walk n f) (walk-within n f));
     }
 
 pub statements : (wanted : ℕ) →
-    Row (λ n fs. places_of wanted (stmtExprs (record { place = n; this = nth 0 fs }))) (λ n fs. places_of wanted (flat_map stmtExprs (placed n fs)))
+    Row (λ n fs. places_of wanted (stmt_exprs (record { place = n; this = nth 0 fs }))) (λ n fs. places_of wanted (flat_map stmt_exprs (placed n fs)))
 unfolding flat_map placed nth filter
 statements wanted =
     record {
       none = λ n r. refl;
-      more = λ n f fs. places-append wanted (stmtExprs (record { place = n; this = f })) (flat_map stmtExprs (placed (n + size f) fs));
-      few = λ n f fs. omega (arith, places-few wanted n (n + size f) (stmtExprs (record { place = n; this = f })) (statement-within (record { place = n; this = f })));
+      more = λ n f fs. places-append wanted (stmt_exprs (record { place = n; this = f })) (flat_map stmt_exprs (placed (n + size f) fs));
+      few = λ n f fs. omega (arith, places-few wanted n (n + size f) (stmt_exprs (record { place = n; this = f })) (statement-within (record { place = n; this = f })));
     }

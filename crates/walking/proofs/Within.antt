@@ -3,12 +3,12 @@ use Rattle.std.proofs.Common.{ℕ, ◌+◌, ◌*◌, ◌≤◌, Bool, List, [], 
 use mathlib.Core.List.{flat_map}
 use Rattle.laws.specs.Lists.{filter}
 use Rattle.laws.proofs.Truths.{chosen}
-use Rattle.tags.specs.Tag.{isExpression, isStatement}
+use Rattle.tags.specs.Tag.{is_expression, is_statement}
 use Rattle.fields.specs.Field.{Field, Fields, Placed, tag, parts, size, sizes, placed}
 use Rattle.fields.specs.Field.Field.{field}
 use Rattle.fields.specs.Field.Fields.{end, next}
 use Rattle.fields.proofs.Places.{parts-inside}
-use Rattle.walking.specs.Walking.{walk, walkParts, stmtExprs, bodyExprs}
+use Rattle.walking.specs.Walking.{walk, walk_parts, stmt_exprs, body_exprs}
 
 -- the places increase from `low` on, by three at least, and the three bytes of each head end at `high` or before it
 abbrev pub Within : ℕ → ℕ → List Placed → Type 0
@@ -40,37 +40,37 @@ mutual
 
   pub walk-within : (n : ℕ) (f : Field) → Within n (n + size f) (walk n f)
   walk-within n (field t x ps) =
-      chosen (Within n (n + size (field t x ps))) (isExpression t)
-      (omega arith, within_wider (n + 3) (n + 3) (n + 3 + sizes ps) _ (walkParts (n + 3) ps) (omega arith) (omega arith) (parts_within (n + 3) ps))
+      chosen (Within n (n + size (field t x ps))) (is_expression t)
+      (omega arith, within_wider (n + 3) (n + 3) (n + 3 + sizes ps) _ (walk_parts (n + 3) ps) (omega arith) (omega arith) (parts_within (n + 3) ps))
       (omega arith)
 
-  pub parts_within : (n : ℕ) (fs : Fields) → Within n (n + sizes fs) (walkParts n fs)
+  pub parts_within : (n : ℕ) (fs : Fields) → Within n (n + sizes fs) (walk_parts n fs)
   parts_within n (end r) = omega arith
   parts_within n (next f fs) =
       rw (← add_assoc n (size f) (sizes fs))
-      (within-append n (n + size f) _ (walk n f) (walkParts (n + size f) fs) (walk-within n f) (parts_within (n + size f) fs))
+      (within-append n (n + size f) _ (walk n f) (walk_parts (n + size f) fs) (walk-within n f) (parts_within (n + size f) fs))
 
 -- the expressions of a statement, and those of a body
-pub statement-within : (p : Placed) → Within p.place (p.place + size p.this) (stmtExprs p)
-unfolding stmtExprs
+pub statement-within : (p : Placed) → Within p.place (p.place + size p.this) (stmt_exprs p)
+unfolding stmt_exprs
 statement-within p =
     let l = parts-inside p.this in
-    chosen (Within p.place (p.place + size p.this)) (isStatement (tag p.this))
-    (within_wider p.place (p.place + 3) (p.place + 3 + sizes (parts p.this)) _ (walkParts (p.place + 3) (parts p.this))
+    chosen (Within p.place (p.place + size p.this)) (is_statement (tag p.this))
+    (within_wider p.place (p.place + 3) (p.place + 3 + sizes (parts p.this)) _ (walk_parts (p.place + 3) (parts p.this))
     (omega arith) (omega arith) (parts_within (p.place + 3) (parts p.this)))
     (omega arith)
 
-statements-within : (n : ℕ) (fs : Fields) → Within n (n + sizes fs) (flat_map stmtExprs (placed n fs))
+statements-within : (n : ℕ) (fs : Fields) → Within n (n + sizes fs) (flat_map stmt_exprs (placed n fs))
 unfolding flat_map placed sizes
 statements-within n (end r) = omega arith
 statements-within n (next f fs) =
     rw (← add_assoc n (size f) (sizes fs))
-    (within-append n (n + size f) _ (stmtExprs (record { place = n; this = f })) (flat_map stmtExprs (placed (n + size f) fs))
+    (within-append n (n + size f) _ (stmt_exprs (record { place = n; this = f })) (flat_map stmt_exprs (placed (n + size f) fs))
     (statement-within (record { place = n; this = f })) (statements-within (n + size f) fs))
 
-pub body-within : (p : Placed) → Within (p.place + 3) (p.place + size p.this) (bodyExprs p)
-unfolding bodyExprs
+pub body-within : (p : Placed) → Within (p.place + 3) (p.place + size p.this) (body_exprs p)
+unfolding body_exprs
 body-within p =
     let l = parts-inside p.this in
-    within_wider _ (p.place + 3) (p.place + 3 + sizes (parts p.this)) _ (flat_map stmtExprs (placed (p.place + 3) (parts p.this)))
+    within_wider _ (p.place + 3) (p.place + 3 + sizes (parts p.this)) _ (flat_map stmt_exprs (placed (p.place + 3) (parts p.this)))
     (omega arith) (omega arith) (statements-within (p.place + 3) (parts p.this))

@@ -2,7 +2,7 @@
 // The p of `p.amount`.
 ghost use Rattle.std.specs.Prelude.{◌≡◌};
 ghost use Rattle.fields.specs.Field.{front};
-ghost use Rattle.walking.specs.Walking.{assetAmountBacker};
+ghost use Rattle.walking.specs.Walking.{asset_amount_backer};
 ghost use Rattle.walking.specs.Node.{node_of};
 
 use fields::bytes::same_bytes;
@@ -30,7 +30,7 @@ fn node_at(s: &[u8], tag: u8) -> Node
 
 // The name p where `p.amount` stands at the front of s. Anything else gives no backer and leaves at once.
 pub fn asset_amount_backer(s: &[u8]) -> &[u8]
-    ensures { result.now ≡ assetAmountBacker (front s.now) }
+    ensures { result.now ≡ asset_amount_backer (front s.now) }
 {
     let Node::Found { end: _ } = node_at(s, MEMBER) else {
         return &s[..0];

@@ -2,7 +2,7 @@
 // An expression without the Checked and Wrapping around it.
 ghost use Rattle.std.specs.Prelude.{◌≡◌, drop, length};
 ghost use Rattle.fields.specs.Field.{front};
-ghost use Rattle.walking.specs.Walking.{peel, peelPlace};
+ghost use Rattle.walking.specs.Walking.{peel, peel_place};
 
 use fields::bytes::skip;
 use fields::front::{is_whole, parts_of, tag_of};
@@ -12,7 +12,7 @@ use tags::is_wrapper;
 // What stands behind a wrapper is not inside it: where a wrapper holds no whole field, the place is the end of s.
 pub fn peel_place(s: &[u8]) -> usize
     ensures reads { front (drop result s.now) ≡ peel (front s.now) }
-    ensures stands { result ≡ peelPlace (length s.now) 0 (front s.now) }
+    ensures stands { result ≡ peel_place (length s.now) 0 (front s.now) }
 {
     let mut t = s;
     let mut at = 0;
@@ -32,7 +32,7 @@ pub fn peel_place(s: &[u8]) -> usize
 // s from there on.
 pub fn peel(s: &[u8]) -> &[u8]
     ensures reads { front result.now ≡ peel (front s.now) }
-    ensures shows { result.now ≡ drop (peelPlace (length s.now) 0 (front s.now)) s.now }
+    ensures shows { result.now ≡ drop (peel_place (length s.now) 0 (front s.now)) s.now }
 {
     skip(s, peel_place(s))
 }

@@ -2,7 +2,7 @@
 // The shapes of a call. Callees, member bases and the key `caller` are matched unpeeled.
 ghost use Rattle.std.specs.Prelude.{◌≡◌, take, drop, length};
 ghost use Rattle.fields.specs.Field.{front};
-ghost use Rattle.walking.specs.Walking.{present, ident, method, receiver, isDebit, isPayout};
+ghost use Rattle.walking.specs.Walking.{present, ident, method, receiver, is_debit, is_payout};
 
 use fields::bytes::same_bytes;
 use fields::front::{part_of, tag_of, text_of};
@@ -46,7 +46,7 @@ pub fn receiver(s: &[u8]) -> &[u8]
 
 // Whether the field at the front of s is a caller debit, `m.debit(caller, amount)`.
 pub fn is_debit(s: &[u8]) -> bool
-    ensures { result ≡ isDebit (front s.now) }
+    ensures { result ≡ is_debit (front s.now) }
 {
     same_bytes(method(s), b"debit")
         & (tag_of(part_of(part_of(s, 0), 0)) == IDENTIFIER)
@@ -56,7 +56,7 @@ pub fn is_debit(s: &[u8]) -> bool
 
 // Whether it is a payout, `send_asset(token, receiver, value)`.
 pub fn is_payout(s: &[u8]) -> bool
-    ensures { result ≡ isPayout (front s.now) }
+    ensures { result ≡ is_payout (front s.now) }
 {
     (tag_of(s) == CALL)
         & same_bytes(ident(part_of(s, 0)), b"send_asset")

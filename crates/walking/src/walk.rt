@@ -4,7 +4,7 @@
 // of a file and not with the length of its lists.
 ghost use mathlib.Core.List.{flat_map};
 ghost use Rattle.fields.specs.Field.{fields, front, placed};
-ghost use Rattle.walking.specs.Walking.{walk, walkParts, stmtExprs, bodyExprs};
+ghost use Rattle.walking.specs.Walking.{walk, walk_parts, stmt_exprs, body_exprs};
 ghost use Rattle.fields.specs.Table.{Listed, Room};
 ghost use Rattle.walking.specs.Table.{placed_at, places_of};
 
@@ -42,7 +42,7 @@ fn visit_expression(s: &[u8], base: usize, tag: u8, table: &mut [u16], n: usize)
 #[cycle(visit_expression_visit_parts)]
 fn visit_parts(s: &[u8], base: usize, tag: u8, table: &mut [u16], n: usize) -> usize
     requires { Room s.now base n }
-    ensures { Listed (places_of tag (walkParts base (fields s.now))) table.old n table.new result }
+    ensures { Listed (places_of tag (walk_parts base (fields s.now))) table.old n table.new result }
 {
     let mut t = s;
     let mut at = base;
@@ -59,7 +59,7 @@ fn visit_parts(s: &[u8], base: usize, tag: u8, table: &mut [u16], n: usize) -> u
 // The same of the statement at the front of s; nothing where no statement stands there.
 fn visit_statement(s: &[u8], base: usize, tag: u8, table: &mut [u16], n: usize) -> usize
     requires { Room s.now base n }
-    ensures { Listed (places_of tag (stmtExprs (record { place = base; this = front s.now }))) table.old n table.new result }
+    ensures { Listed (places_of tag (stmt_exprs (record { place = base; this = front s.now }))) table.old n table.new result }
 {
     if !is_statement(tag_of(s)) {
         return n;
@@ -70,7 +70,7 @@ fn visit_statement(s: &[u8], base: usize, tag: u8, table: &mut [u16], n: usize) 
 // The same of the statements among the fields of s.
 fn visit_statements(s: &[u8], base: usize, tag: u8, table: &mut [u16], n: usize) -> usize
     requires { Room s.now base n }
-    ensures { Listed (places_of tag (flat_map stmtExprs (placed base (fields s.now)))) table.old n table.new result }
+    ensures { Listed (places_of tag (flat_map stmt_exprs (placed base (fields s.now)))) table.old n table.new result }
 {
     let mut t = s;
     let mut at = base;
@@ -93,7 +93,7 @@ pub fn list_expression(s: &[u8], tag: u8, table: &mut [u16]) -> usize
 
 // Lists the places, in the file, of the expressions of a tag in the body of the entry that stands at a place of it.
 pub fn list_body(file: &[u8], place: usize, tag: u8, table: &mut [u16]) -> usize
-    ensures { Listed (places_of tag (bodyExprs (placed_at file.now place))) table.old 0 table.new result }
+    ensures { Listed (places_of tag (body_exprs (placed_at file.now place))) table.old 0 table.new result }
 {
     let entry = skip(file, place);
     if !is_whole(entry) {

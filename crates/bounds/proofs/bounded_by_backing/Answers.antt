@@ -1,8 +1,8 @@
 -- The backing is no parameter's.
 use Rattle.std.proofs.Common.{rules}
-use Rattle.bounds.specs.Backing.{backingField}
+use Rattle.bounds.specs.Backing.{backing_field}
 use Rattle.bounds.proofs.bounded_by_backing.Goals as goal
 
 pub returns : goal.returns
-unfolding backingField
+unfolding backing_field
 returns c = cc

@@ -1,7 +1,7 @@
 -- The code makes the definition's tests, in its order.
-use Rattle.bounds.specs.Bounds.{goesLeft}
+use Rattle.bounds.specs.Bounds.{goes_left}
 use Rattle.bounds.proofs.goes_left.Goals as goal
 
 pub returns : goal.returns
-unfolding goesLeft
+unfolding goes_left
 returns c = cc

@@ -1,22 +1,22 @@
 -- The two cases of the answer are the two of the questions.
 use Rattle.std.proofs.Common.{ℕ, ◌≡◌, sym, ap, ◌∙◌, List, rules}
-use Rattle.questions.specs.Questions.{Asked, askFile}
+use Rattle.questions.specs.Questions.{Asked, ask_file}
 use Rattle.questions.specs.Answers.{asked}
 use Rattle.questions.specs.declared.check.Answer.{Answer}
 use Rattle.questions.specs.declared.check.Answer.TheVariants.{Passes, Refused}
-use Rattle.export.specs.Refusal.{questionIn, place_in}
+use Rattle.export.specs.Refusal.{question_in, place_in}
 use Rattle.export.proofs.zevdrak_check_file.Statement.{statement}
 use Rattle.export.proofs.zevdrak_check_file.Tie as tie
 
 module _ (q : Asked) (a : Answer) (e : asked a ≡ q) where
-  all-passed : a ≡ Passes → 0 ≡ questionIn q
+  all-passed : a ≡ Passes → 0 ≡ question_in q
   all-passed h = rw (← e, h)
 
   place_kept : a ≡ Passes → (p : ℕ) → p ≡ place_in q p
   place_kept h p = rw (← e, h)
 
   module _ (n k : ℕ) (h : a ≡ Refused n k) where
-    number-told : n ≡ questionIn q
+    number-told : n ≡ question_in q
     number-told = rw (← e, h)
 
     place-told : (p : ℕ) → k ≡ place_in q p

@@ -1,6 +1,6 @@
-use Rattle.tags.specs.Tag.{isAssign}
+use Rattle.tags.specs.Tag.{is_assign}
 use Rattle.tags.proofs.is_assign.Goals as goal
 
 pub returns : goal.returns
-unfolding isAssign
+unfolding is_assign
 returns c = cc

@@ -1,6 +1,6 @@
-use Rattle.tags.specs.Tag.{isClause}
+use Rattle.tags.specs.Tag.{is_clause}
 use Rattle.tags.proofs.is_clause.Goals as goal
 
 pub returns : goal.returns
-unfolding isClause
+unfolding is_clause
 returns c = cc

@@ -1,6 +1,6 @@
-use Rattle.tags.specs.Tag.{isWrapper}
+use Rattle.tags.specs.Tag.{is_wrapper}
 use Rattle.tags.proofs.is_wrapper.Goals as goal
 
 pub returns : goal.returns
-unfolding isWrapper
+unfolding is_wrapper
 returns c = cc

@@ -1,8 +1,8 @@
 -- No backing that was passed over passes the test, so those that are left decide.
 use Rattle.std.proofs.Common.{◌-◌, arith, rules}
 use Rattle.fields.specs.Field.{front}
-use Rattle.guards.specs.Payouts.{payoutAmount}
-use Rattle.backings.specs.Tables.{equalTo, freeIn}
+use Rattle.guards.specs.Payouts.{payout_amount}
+use Rattle.backings.specs.Tables.{equal_to, free_in}
 use Rattle.laws.proofs.Scanning.{Scanning, scanning-all, scanning-none, scanning-found, scanning-on}
 use Rattle.backings.proofs.Marking.{free-equal}
 use Rattle.backings.proofs.marks.first_equal.Statement.{statement}
@@ -12,7 +12,7 @@ pub first_equal_spec : {M : Type 1} → statement M
 first_equal_spec =
     tie.close
     (tie.spec
-    (λ file s amount free backed debits total i₀ i. Scanning (freeIn file backed debits free (equalTo (payoutAmount (front s)))) total i)  -- Inv-loop
+    (λ file s amount free backed debits total i₀ i. Scanning (free_in file backed debits free (equal_to (payout_amount (front s)))) total i)  -- Inv-loop
     (λ file s amount free backed debits total i₀ i. total - i)  -- μ-loop
     (λ c κs. search rules)  -- payout-amount-requires
     (λ c κs. search rules)  -- peel-requires

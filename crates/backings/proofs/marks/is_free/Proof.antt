@@ -1,6 +1,6 @@
 -- A number past the last mark has none.
 use Rattle.std.proofs.Common.{rules}
-use Rattle.backings.proofs.Marking.{free_in, free-out}
+use Rattle.backings.proofs.Marking.{free-in, free-out}
 use Rattle.backings.proofs.marks.is_free.Statement.{statement}
 use Rattle.backings.proofs.marks.is_free.Tie as tie
 
@@ -8,5 +8,5 @@ pub is_free_spec : {M : Type 1} → statement M
 is_free_spec =
     tie.close (tie.spec
     (λ c. search rules)  -- element-copy-out-result
-    (λ c. search free_in)  -- returns
+    (λ c. search free-in)  -- returns
     (λ c. search free-out))  -- returns-2

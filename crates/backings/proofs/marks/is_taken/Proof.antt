@@ -1,8 +1,8 @@
 -- No backing that was passed over passes the test, so those that are left decide.
 use Rattle.std.proofs.Common.{◌-◌, arith, rules}
 use Rattle.fields.specs.Field.{front}
-use Rattle.guards.specs.Payouts.{payoutAmount}
-use Rattle.backings.specs.Tables.{equalTo, takenIn}
+use Rattle.guards.specs.Payouts.{payout_amount}
+use Rattle.backings.specs.Tables.{equal_to, taken_in}
 use Rattle.laws.proofs.Scanning.{Scanning, scanning-all, scanning-on}
 use Rattle.backings.proofs.Marking.{scanning-no, scanning-yes, taken-equal}
 use Rattle.backings.proofs.marks.is_taken.Statement.{statement}
@@ -12,7 +12,7 @@ pub is_taken_spec : {M : Type 1} → statement M
 is_taken_spec =
     tie.close
     (tie.spec
-    (λ file s amount free backed debits total i₀ i. Scanning (takenIn file backed debits free (equalTo (payoutAmount (front s)))) total i)  -- Inv-loop
+    (λ file s amount free backed debits total i₀ i. Scanning (taken_in file backed debits free (equal_to (payout_amount (front s)))) total i)  -- Inv-loop
     (λ file s amount free backed debits total i₀ i. total - i)  -- μ-loop
     (λ c κs. search rules)  -- payout-amount-requires
     (λ c κs. search rules)  -- peel-requires

@@ -1,11 +1,11 @@
 -- The calls before the i-th are gone through, and those that pass are listed.
 use Rattle.std.proofs.Common.{◌-◌, rules, length}
-use Rattle.walking.specs.Walking.{isDebit}
+use Rattle.walking.specs.Walking.{is_debit}
 use Rattle.entries.proofs.Choosing.{Choosing, choosing-none, choosing-same, choosing-done, choosing-on, note-fits}
 use Rattle.entries.proofs.calls.list_debits.Given as goal
 
 abbrev pub invariant-loop-i : goal.invariant-loop-i
-invariant-loop-i l = Choosing l.file isDebit l.calls l.initial.table l.table l.i l.n
+invariant-loop-i l = Choosing l.file is_debit l.calls l.initial.table l.table l.i l.n
 
 abbrev pub decreases-loop-i : goal.decreases-loop-i
 decreases-loop-i l = length l.calls - l.i

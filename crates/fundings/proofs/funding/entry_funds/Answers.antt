@@ -3,7 +3,7 @@ use Rattle.std.proofs.Common.{◌-◌, arith, rules}
 use Rattle.laws.proofs.Seeking.{Seeking, seeking-none}
 use Rattle.fields.specs.Field.{front}
 use Rattle.fundings.specs.FundingTokens.{funds}
-use Rattle.fundings.proofs.Funded.{fundingAt, funding-all, funding-found, funding-on}
+use Rattle.fundings.proofs.Funded.{funding_at, funding-all, funding-found, funding-on}
 use Rattle.fundings.proofs.funding.entry_funds.Goals as goal
 
 pub loop-i-init : goal.loop-i-init

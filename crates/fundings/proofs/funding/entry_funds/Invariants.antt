@@ -3,11 +3,11 @@ use Rattle.std.proofs.Common.{◌-◌, arith, rules}
 use Rattle.laws.proofs.Seeking.{Seeking, seeking-none}
 use Rattle.fields.specs.Field.{front}
 use Rattle.fundings.specs.FundingTokens.{funds}
-use Rattle.fundings.proofs.Funded.{fundingAt, funding-all, funding-found, funding-on}
+use Rattle.fundings.proofs.Funded.{funding_at, funding-all, funding-found, funding-on}
 use Rattle.fundings.proofs.funding.entry_funds.Given as goal
 
 abbrev pub invariant-loop-i : goal.invariant-loop-i
-invariant-loop-i l = Seeking (fundingAt l.map l.s) l.calls l.count l.i (funds l.map (front l.s))
+invariant-loop-i l = Seeking (funding_at l.map l.s) l.calls l.count l.i (funds l.map (front l.s))
 
 abbrev pub decreases-loop-i : goal.decreases-loop-i
 decreases-loop-i l = l.count - l.i

@@ -2,8 +2,8 @@
 -- differ stay so.
 use Rattle.std.proofs.Common.{◌-◌, arith, rules, length}
 use Rattle.laws.proofs.Told.{told}
-use Rattle.tokens.proofs.Numbers.{Joining, markNumber, conditions-all, joining-from, joining-on, joining-done, joining-several}
-use Rattle.fundings.proofs.Funders.{Ledger, foundWithin, ledger-all, ledger-token, ledger-small, ledger-here, ledger-several, ledger-room, ledger-falls, ledger-next}
+use Rattle.tokens.proofs.Numbers.{Joining, mark_number, conditions-all, joining-from, joining-on, joining-done, joining-several}
+use Rattle.fundings.proofs.Funders.{Ledger, found_within, ledger-all, ledger-token, ledger-small, ledger-here, ledger-several, ledger-room, ledger-falls, ledger-next}
 use Rattle.fundings.proofs.token.ledger_funding_number.Goals as goal
 
 pub search-init : goal.search-init

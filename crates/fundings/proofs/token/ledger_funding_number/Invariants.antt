@@ -2,12 +2,12 @@
 -- differ stay so.
 use Rattle.std.proofs.Common.{◌-◌, arith, rules, length}
 use Rattle.laws.proofs.Told.{told}
-use Rattle.tokens.proofs.Numbers.{Joining, markNumber, conditions-all, joining-from, joining-on, joining-done, joining-several}
-use Rattle.fundings.proofs.Funders.{Ledger, foundWithin, ledger-all, ledger-token, ledger-small, ledger-here, ledger-several, ledger-room, ledger-falls, ledger-next}
+use Rattle.tokens.proofs.Numbers.{Joining, mark_number, conditions-all, joining-from, joining-on, joining-done, joining-several}
+use Rattle.fundings.proofs.Funders.{Ledger, found_within, ledger-all, ledger-token, ledger-small, ledger-here, ledger-several, ledger-room, ledger-falls, ledger-next}
 use Rattle.fundings.proofs.token.ledger_funding_number.Given as goal
 
 abbrev pub invariant-search : goal.invariant-search
-invariant-search l = Joining (markNumber l.t l.place) l.file l.table l.count (foundWithin l.file l.place l.initial.found) l.i l.found
+invariant-search l = Joining (mark_number l.t l.place) l.file l.table l.count (found_within l.file l.place l.initial.found) l.i l.found
 
 abbrev pub decreases-search : goal.decreases-search
 decreases-search l = l.count - l.i

@@ -3,8 +3,8 @@ use Rattle.std.proofs.Common.{◌-◌, arith, rules, length}
 use Rattle.fields.proofs.AtPlaces.{field_at, field_found, field-on}
 use Rattle.laws.proofs.Seeking.{Seeking, seeking-none}
 use Rattle.fields.specs.Field.{front}
-use Rattle.tokens.specs.Tokens.{isInflow}
-use Rattle.guards.specs.Members.{memberInflow}
+use Rattle.tokens.specs.Tokens.{is_inflow}
+use Rattle.guards.specs.Members.{member_inflow}
 use Rattle.guards.proofs.Members.{members-any}
 use Rattle.guards.proofs.contained.has_inflow.Goals as goal
 

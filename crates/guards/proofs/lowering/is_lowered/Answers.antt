@@ -5,7 +5,7 @@ use Rattle.laws.specs.Lists.{any}
 use Rattle.laws.proofs.Seeking.{Seeking, seeking-none}
 use Rattle.fields.specs.Field.{front}
 use Rattle.fields.proofs.AtPlaces.{field_at, fields-any, field_found, field-on}
-use Rattle.guards.specs.Lowerings.{mayLower}
+use Rattle.guards.specs.Lowerings.{may_lower}
 use Rattle.guards.proofs.lowering.is_lowered.Goals as goal
 
 pub loop-i-init : goal.loop-i-init

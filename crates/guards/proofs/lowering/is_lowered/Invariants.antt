@@ -5,11 +5,11 @@ use Rattle.laws.specs.Lists.{any}
 use Rattle.laws.proofs.Seeking.{Seeking, seeking-none}
 use Rattle.fields.specs.Field.{front}
 use Rattle.fields.proofs.AtPlaces.{field_at, fields-any, field_found, field-on}
-use Rattle.guards.specs.Lowerings.{mayLower}
+use Rattle.guards.specs.Lowerings.{may_lower}
 use Rattle.guards.proofs.lowering.is_lowered.Given as goal
 
 abbrev pub invariant-loop-i : goal.invariant-loop-i
-invariant-loop-i l = Seeking (field_at (mayLower (front l.amount) l.name) l.entry) l.lowerings (length l.lowerings) l.i (any (mayLower (front l.amount) l.name) (fields_at l.entry l.lowerings))
+invariant-loop-i l = Seeking (field_at (may_lower (front l.amount) l.name) l.entry) l.lowerings (length l.lowerings) l.i (any (may_lower (front l.amount) l.name) (fields_at l.entry l.lowerings))
 
 abbrev pub decreases-loop-i : goal.decreases-loop-i
 decreases-loop-i l = length l.lowerings - l.i

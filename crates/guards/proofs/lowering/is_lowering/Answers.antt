@@ -2,27 +2,27 @@
 use Rattle.std.proofs.Common.{ℕ, ◌≡◌, Bool, true, false, not, List, rules}
 use borrow.Author.Tests.{not-true, not-false}
 use Rattle.laws.specs.Lists.{any}
-use Rattle.tags.specs.Tag.{isAssign}
+use Rattle.tags.specs.Tag.{is_assign}
 use Rattle.fields.specs.Field.{Field, front, tag, part}
 use Rattle.walking.specs.Walking.{ident}
-use Rattle.equality.specs.Equality.{exprEq}
-use Rattle.guards.specs.Guards.{containsWrapping, loweredBy}
-use Rattle.guards.specs.Lowerings.{isLowering}
+use Rattle.equality.specs.Equality.{expr_eq}
+use Rattle.guards.specs.Guards.{contains_wrapping, lowered_by}
+use Rattle.guards.specs.Lowerings.{is_lowering}
 use Rattle.guards.proofs.lowering.is_lowering.Goals as goal
 
-module _ (amounts : List Field) (s : Field) (t : ℕ) (d : t ≡ tag s) (b : Bool) (e : b ≡ isAssign t) where
-  no-assignment : not b ≡ true → false ≡ isLowering amounts s
-  unfolding isLowering
+module _ (amounts : List Field) (s : Field) (t : ℕ) (d : t ≡ tag s) (b : Bool) (e : b ≡ is_assign t) where
+  no-assignment : not b ≡ true → false ≡ is_lowering amounts s
+  unfolding is_lowering
   no-assignment h = rw (← d, ← e, not-true b h)
 
-  module _ (h : not b ≡ false) (x : List ℕ) (f : front x ≡ part 0 s) (r : List ℕ) (g : r ≡ ident (front x)) (y : List ℕ) (i : front y ≡ loweredBy r s)
-      (a : Bool) (j : a ≡ any (exprEq (front y)) amounts) where
-    other-amount : not a ≡ true → false ≡ isLowering amounts s
-    unfolding isLowering
+  module _ (h : not b ≡ false) (x : List ℕ) (f : front x ≡ part 0 s) (r : List ℕ) (g : r ≡ ident (front x)) (y : List ℕ) (i : front y ≡ lowered_by r s)
+      (a : Bool) (j : a ≡ any (expr_eq (front y)) amounts) where
+    other-amount : not a ≡ true → false ≡ is_lowering amounts s
+    unfolding is_lowering
     other-amount k = rw (← d, ← e, not-false b h, ← f, ← g, ← i, ← j, not-true a k)
 
-    by-wrapping : not a ≡ false → (z : List ℕ) → front z ≡ part 1 s → (w : Bool) → w ≡ containsWrapping (front z) → not w ≡ isLowering amounts s
-    unfolding isLowering
+    by-wrapping : not a ≡ false → (z : List ℕ) → front z ≡ part 1 s → (w : Bool) → w ≡ contains_wrapping (front z) → not w ≡ is_lowering amounts s
+    unfolding is_lowering
     by-wrapping k z l w m = rw (← d, ← e, not-false b h, ← f, ← g, ← i, ← j, not-false a k, ← l, ← m)
 
 pub returns-then-not-is_assign : goal.returns-then-not-is_assign

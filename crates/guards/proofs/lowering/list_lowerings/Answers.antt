@@ -5,20 +5,20 @@ use Rattle.fields.specs.Table.{Listed}
 use Rattle.fields.specs.Field.{Field, fields, whole, front, parts, sizes}
 use Rattle.fields.proofs.Reading.{after_less}
 use Rattle.fields.proofs.Listing.{down-note, along-fits, Listing, listing-all, listing-on, listing-done}
-use Rattle.guards.specs.Asked.{askedAmounts}
-use Rattle.guards.specs.Lowerings.{loweringPlaces}
-use Rattle.guards.proofs.Lowerings.{manyOf, lowering-row, lowering-noted}
+use Rattle.guards.specs.Asked.{asked_amounts}
+use Rattle.guards.specs.Lowerings.{lowering_places}
+use Rattle.guards.proofs.Lowerings.{many_of, lowering-row, lowering-noted}
 use Rattle.guards.proofs.lowering.list_lowerings.Goals as goal
 
 module _ (amounts : List Field) (s t : List ℕ) where
-  first : length s < 2 ^ 64 → (x : List ℕ) → x ≡ take (sizes (parts (front s))) (drop 3 s) → Listing manyOf amounts x 3 t 0 t x 3 0
+  first : length s < 2 ^ 64 → (x : List ℕ) → x ≡ take (sizes (parts (front s))) (drop 3 s) → Listing many_of amounts x 3 t 0 t x 3 0
   first small x f =
       let l : length x ≤ length s - 3 = rw (f, length-take, length-drop) (omega arith) in
-      listing-all manyOf amounts x 3 t 0 (record { place = omega arith; count = omega arith })
+      listing-all many_of amounts x 3 t 0 (record { place = omega arith; count = omega arith })
 
   all_listed : (x : List ℕ) → fields x ≡ parts (front s) → (last u : List ℕ) (at m : ℕ) →
-      Listing manyOf amounts x 3 t 0 last u at m → whole u ≡ false → Listed (loweringPlaces amounts (front s)) t 0 last m
-  unfolding loweringPlaces
+      Listing many_of amounts x 3 t 0 last u at m → whole u ≡ false → Listed (lowering_places amounts (front s)) t 0 last m
+  unfolding lowering_places
   all_listed x f last u at m i w = rw (← f) (listing-done lowering-row amounts x 3 t 0 last u at m i w)
 
 pub loop-t-init : goal.loop-t-init

@@ -3,22 +3,22 @@ use Rattle.std.proofs.Common.{ℕ, ◌≡◌, refl, ◌∙◌, Bool, true, false
 use Rattle.fields.specs.Field.{Field, front, tag, part}
 use Rattle.fields.proofs.Reading.{front-none}
 use Rattle.walking.specs.Walking.{peel}
-use Rattle.raises.specs.Raises.{value, setsFrom}
-use Rattle.guards.specs.Guards.{loweredBy}
+use Rattle.raises.specs.Raises.{value, sets_from}
+use Rattle.guards.specs.Guards.{lowered_by}
 use Rattle.guards.proofs.lowering.lowered_by.Goals as goal
 
 module _ (r : List ℕ) (s : Field) (t : ℕ) (d : t ≡ tag s) where
-  subtracted : t ≡ 0x15 → (x : List ℕ) → front x ≡ value s → front x ≡ loweredBy r s
-  unfolding loweredBy
+  subtracted : t ≡ 0x15 → (x : List ℕ) → front x ≡ value s → front x ≡ lowered_by r s
+  unfolding lowered_by
   subtracted h x e = e ∙ rw (← d, eq-eqb t 0x15 h)
 
-  module _ (h : t ≡ 0x15 → ⊥) (b : Bool) (e : b ≡ setsFrom 0x49 r s) where
-    set-lower : b ≡ true → (x y z : List ℕ) → front x ≡ value s → front y ≡ part 1 (front x) → front z ≡ peel (front y) → front z ≡ loweredBy r s
-    unfolding loweredBy
+  module _ (h : t ≡ 0x15 → ⊥) (b : Bool) (e : b ≡ sets_from 0x49 r s) where
+    set-lower : b ≡ true → (x y z : List ℕ) → front x ≡ value s → front y ≡ part 1 (front x) → front z ≡ peel (front y) → front z ≡ lowered_by r s
+    unfolding lowered_by
     set-lower k x y z f g i = i ∙ rw (← d, ne_eqb t 0x15 h, ← e, k, ← f, ← g)
 
-    not-lowered : b ≡ false → front [] ≡ loweredBy r s
-    unfolding loweredBy
+    not-lowered : b ≡ false → front [] ≡ lowered_by r s
+    unfolding lowered_by
     not-lowered k = front-none [] refl ∙ rw (← d, ne_eqb t 0x15 h, ← e, k)
 
 pub returns-then-tag_of-eq-SUBTRACT_FROM : goal.returns-then-tag_of-eq-SUBTRACT_FROM

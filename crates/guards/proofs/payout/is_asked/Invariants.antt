@@ -5,22 +5,22 @@ use Rattle.laws.proofs.Lists.{any-map}
 use Rattle.laws.proofs.Seeking.{Seeking, seeking-all, seeking-found, seeking-on, seeking-none}
 use Rattle.laws.specs.Lists.{any}
 use Rattle.fields.specs.Field.{Field, front}
-use Rattle.equality.specs.Equality.{exprEq}
-use Rattle.guards.specs.Asked.{paidAt, askedAmount, askedAmounts}
+use Rattle.equality.specs.Equality.{expr_eq}
+use Rattle.guards.specs.Asked.{paid_at, asked_amount, asked_amounts}
 use Rattle.guards.proofs.payout.is_asked.Given as goal
 
 unfoldable pub asks : List ℕ → Field → ℕ → Bool
-asks file amount n = exprEq amount (paidAt file n)
+asks file amount n = expr_eq amount (paid_at file n)
 
 module _ (file asked : List ℕ) (amount : Field) where
-  pub none_passed : Seeking (asks file amount) asked (length asked) 0 (any (exprEq amount) (askedAmounts file asked))
-  unfolding asks askedAmounts
-  none_passed = seeking-all (asks file amount) asked (length asked) _ (omega arith) (rw (take-length asked) (sym (any-map (paidAt file) (exprEq amount) asked)))
+  pub none_passed : Seeking (asks file amount) asked (length asked) 0 (any (expr_eq amount) (asked_amounts file asked))
+  unfolding asks asked_amounts
+  none_passed = seeking-all (asks file amount) asked (length asked) _ (omega arith) (rw (take-length asked) (sym (any-map (paid_at file) (expr_eq amount) asked)))
 
-  module _ (i : ℕ) (r : Bool) (v : Seeking (asks file amount) asked (length asked) i r) (h : i < length asked) (y : List ℕ) (e : front y ≡ askedAmount file asked i)
-      (b : Bool) (f : b ≡ exprEq amount (front y)) where
+  module _ (i : ℕ) (r : Bool) (v : Seeking (asks file amount) asked (length asked) i r) (h : i < length asked) (y : List ℕ) (e : front y ≡ asked_amount file asked i)
+      (b : Bool) (f : b ≡ expr_eq amount (front y)) where
     pub here : asks file amount (get_or asked i 0) ≡ b
-    unfolding asks askedAmount
+    unfolding asks asked_amount
     here = rw (f, e)
 
     pub found : b ≡ true → true ≡ r
@@ -30,7 +30,7 @@ module _ (file asked : List ℕ) (amount : Field) where
     one_more k = seeking-on (asks file amount) asked (length asked) i r v h (here ∙ k)
 
 abbrev pub invariant-loop-i : goal.invariant-loop-i
-invariant-loop-i l = Seeking (asks l.file (front l.amount)) l.asked (length l.asked) l.i (any (exprEq (front l.amount)) (askedAmounts l.file l.asked))
+invariant-loop-i l = Seeking (asks l.file (front l.amount)) l.asked (length l.asked) l.i (any (expr_eq (front l.amount)) (asked_amounts l.file l.asked))
 
 abbrev pub decreases-loop-i : goal.decreases-loop-i
 decreases-loop-i l = length l.asked - l.i

@@ -2,11 +2,11 @@
 use Rattle.std.proofs.Common.{◌≡◌, List, ℕ, rules}
 use Rattle.fields.specs.Field.{front, part}
 use Rattle.walking.specs.Walking.{peel, ident}
-use Rattle.guards.specs.Payouts.{payoutToken}
+use Rattle.guards.specs.Payouts.{payout_token}
 use Rattle.guards.proofs.payout.payout_token.Goals as goal
 
-token-read : (s x y z : List ℕ) → front x ≡ part 1 (front s) → front y ≡ peel (front x) → z ≡ ident (front y) → z ≡ payoutToken (front s)
-unfolding payoutToken
+token-read : (s x y z : List ℕ) → front x ≡ part 1 (front s) → front y ≡ peel (front x) → z ≡ ident (front y) → z ≡ payout_token (front s)
+unfolding payout_token
 token-read s x y z e f g = rw (← e, ← f) g
 
 pub returns : goal.returns

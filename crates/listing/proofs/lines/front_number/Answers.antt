@@ -1,8 +1,8 @@
 -- Two bytes, most significant first.
 use Rattle.std.proofs.Common.{rules}
-use Rattle.listing.specs.Coded.{frontNumber}
+use Rattle.listing.specs.Coded.{front_number}
 use Rattle.listing.proofs.lines.front_number.Goals as goal
 
 pub returns : goal.returns
-unfolding frontNumber
+unfolding front_number
 returns c = (cc, search rules)

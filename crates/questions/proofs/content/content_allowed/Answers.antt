@@ -7,8 +7,8 @@ use Rattle.laws.specs.Texts.{known}
 use Rattle.laws.proofs.Lists.{no-elements}
 use Rattle.laws.proofs.Texts.{is_known}
 use Rattle.laws.proofs.Told.{told}
-use Rattle.tags.specs.Tag.{between, isText}
-use Rattle.questions.specs.Questions.{contentAllowed}
+use Rattle.tags.specs.Tag.{between, is_text}
+use Rattle.questions.specs.Questions.{content_allowed}
 use Rattle.questions.proofs.content.content_allowed.Goals as goal
 
 empty-unknown : (x : List ℕ) → eqb (length x) 0 ≡ not (known x)
@@ -17,18 +17,18 @@ empty-unknown [] = refl
 empty-unknown (y ∷ ys) = eqb-suc-zero (length ys)
 
 module _ (t : ℕ) (x : List ℕ) where
-  no_text : isText t ≡ false → eqb (length x) 0 ≡ contentAllowed t x
-  unfolding contentAllowed
+  no_text : is_text t ≡ false → eqb (length x) 0 ≡ content_allowed t x
+  unfolding content_allowed
   no_text e = rw e (empty-unknown x)
 
-  module _ (e : isText t ≡ true) where
-    empty-text : length x ≡ 0 → leb 0x30 t && leb t 0x32 ≡ contentAllowed t x
-    unfolding contentAllowed all known
+  module _ (e : is_text t ≡ true) where
+    empty-text : length x ≡ 0 → leb 0x30 t && leb t 0x32 ≡ content_allowed t x
+    unfolding content_allowed all known
     empty-text h = rw (e, no-elements x h)
 
-    some-text : (length x ≡ 0 → ⊥) → (r : Bool) → r ≡ all (between 0x20 0x7E) x → r ≡ contentAllowed t x
-    unfolding contentAllowed
-    some-text n r q = q ∙ rw (e, is_known x n) (sym (and-true (all (between 0x20 0x7E) x)))
+    some-text : (length x ≡ 0 → ⊥) → (r : Bool) → r ≡ all (between 0x20 0x7_e) x → r ≡ content_allowed t x
+    unfolding content_allowed
+    some-text n r q = q ∙ rw (e, is_known x n) (sym (and-true (all (between 0x20 0x7_e) x)))
 
 pub returns-then-not-is_text : goal.returns-then-not-is_text
 returns-then-not-is_text c = search (no_text, told)

@@ -2,7 +2,7 @@
 use Rattle.std.proofs.Common.{ℕ, ◌-◌, ◌≤◌, ◌≡◌, sym, ap, ◌∙◌, true, List, [], ◌∷◌, zero-add, length, drop}
 use Rattle.laws.proofs.Lists.{no-elements}
 use Rattle.tags.specs.Tag.{Entry}
-use Rattle.fields.specs.Field.{Placed, fields, whole, fromNth, placedFrom}
+use Rattle.fields.specs.Field.{Placed, fields, whole, from_nth, placed_from}
 use Rattle.fields.proofs.Rows.{rest_of, nth-placed, nth-shorter, nth-whole}
 use Rattle.model.specs.Model.{entries}
 use Rattle.questions.specs.Questions.{at_most}
@@ -19,8 +19,8 @@ one_more : (ps rest : List Placed) (p : Placed) → drop 64 ps ≡ p ∷ rest �
 unfolding at_most
 one_more ps rest p e = cc
 
-module _ (file e : List ℕ) (h : e ≡ fromNth Entry Entry 64 file) where
-  behind : drop 64 (placedFrom Entry Entry 0 (fields file)) ≡ rest_of Entry Entry 0 file e
+module _ (file e : List ℕ) (h : e ≡ from_nth Entry Entry 64 file) where
+  behind : drop 64 (placed_from Entry Entry 0 (fields file)) ≡ rest_of Entry Entry 0 file e
   behind = nth-placed Entry Entry 64 file 0 ∙ ap (rest_of Entry Entry 0 file) (sym h)
 
   shorter : length e ≤ length file
@@ -28,13 +28,13 @@ module _ (file e : List ℕ) (h : e ≡ fromNth Entry Entry 64 file) where
 
   few : length e ≡ 0 → asked answer.Passes ≡ at_most 64 8 (entries (fields file))
   unfolding entries
-  few z = at-most (placedFrom Entry Entry 0 (fields file)) (rw (no-elements e z) at behind)
+  few z = at-most (placed_from Entry Entry 0 (fields file)) (rw (no-elements e z) at behind)
 
   too_many : (length e ≡ 0 → ⊥) → asked (answer.Refused 8 (length file - length e)) ≡ at_most 64 8 (entries (fields file))
   unfolding entries
   too_many n =
       let w : whole e ≡ true = rw h (nth-whole Entry Entry 64 file (rw h at n)) in
-      one_more (placedFrom Entry Entry 0 (fields file)) _ _ (rw (w, zero-add (length file - length e)) at behind)
+      one_more (placed_from Entry Entry 0 (fields file)) _ _ (rw (w, zero-add (length file - length e)) at behind)
 
 pub returns-then-entry-eq0 : goal.returns-then-entry-eq0
 returns-then-entry-eq0 c = search few

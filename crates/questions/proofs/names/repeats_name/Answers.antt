@@ -2,10 +2,10 @@
 use Rattle.std.proofs.Common.{ℕ, ◌≡◌, sym, ◌∙◌, Bool, true, false, not, List, eq-eqb, ne_eqb}
 use borrow.Author.Tests.{not-true}
 use Rattle.laws.specs.Lists.{any}
-use Rattle.laws.specs.Texts.{sameBytes}
+use Rattle.laws.specs.Texts.{same_bytes}
 use Rattle.fields.specs.Field.{fields, front, tag_of}
-use Rattle.model.specs.Model.{name_of, stateNames}
-use Rattle.questions.specs.Noted.{nameNumber, shows, Noted}
+use Rattle.model.specs.Model.{name_of, state_names}
+use Rattle.questions.specs.Noted.{name_number, shows, Noted}
 use Rattle.questions.proofs.Noting.{not-shown, noted_other, noted-state}
 use Rattle.questions.proofs.Naming.{repeats}
 use Rattle.questions.proofs.names.repeats_name.Goals as goal
@@ -15,12 +15,12 @@ module _ (before s : List ℕ) (t : ℕ) (e : t ≡ tag_of s) where
   other n = rw (← e, ne_eqb t 1 n)
 
   module _ (h : t ≡ 1) (m : List ℕ) (f : m ≡ name_of (front s)) where
-    state : (r : Bool) → r ≡ any (sameBytes m) (stateNames (fields before)) → r ≡ repeats before s
+    state : (r : Bool) → r ≡ any (same_bytes m) (state_names (fields before)) → r ≡ repeats before s
     state r q = q ∙ rw (f, ← e, eq-eqb t 1 h)
 
-    new : (table : List ℕ) → Noted (stateNames (fields before)) table → (n : ℕ) → n ≡ nameNumber m → (b : Bool) → b ≡ shows table n → not b ≡ true →
+    new : (table : List ℕ) → Noted (state_names (fields before)) table → (n : ℕ) → n ≡ name_number m → (b : Bool) → b ≡ shows table n → not b ≡ true →
         false ≡ repeats before s
-    new table i n g b q z = state false (sym (not-shown (stateNames (fields before)) table i m (rw g at (sym q ∙ not-true b z))))
+    new table i n g b q z = state false (sym (not-shown (state_names (fields before)) table i m (rw g at (sym q ∙ not-true b z))))
 
 pub returns-then-front_tag-ne-STATE : goal.returns-then-front_tag-ne-STATE
 returns-then-front_tag-ne-STATE c = search (other, noted_other)

@@ -2,9 +2,9 @@
 use Rattle.std.proofs.Common.{ℕ, ◌≡◌, refl, ◌∙◌, Bool, true, false, cond, ◌||◌, List, [], ◌∷◌, rules}
 use Rattle.laws.specs.Lists.{any, filter}
 use Rattle.tags.specs.Tag.{Guard, ExpressionStatement}
-use Rattle.fields.specs.Field.{Field, fields, whole, front, parts, fieldsFrom}
+use Rattle.fields.specs.Field.{Field, fields, whole, front, parts, fields_from}
 use Rattle.model.specs.Model.{body}
-use Rattle.raises.specs.Raising.{isRaise, raising, raisesFrom}
+use Rattle.raises.specs.Raising.{is_raise, raising, raises_from}
 use Rattle.raises.proofs.raise.has_raise.Goals as goal
 
 some-pass : (p : Field → Bool) (l : List Field) (w : Bool) (f : Field) (fs : List Field) → filter p l ≡ cond w (f ∷ fs) [] → w ≡ any p l
@@ -22,9 +22,9 @@ some-pass p (x ∷ l) w f fs e = go (p x) (some-pass p l w f fs) e
     go false h d = h d
 
 found-one : (r : List ℕ) (s p x : List ℕ) → fields p ≡ parts (front s) →
-    filter (isRaise r) (fieldsFrom Guard ExpressionStatement (fields p)) ≡ raisesFrom r x → (v : Bool) → v ≡ whole x → v ≡ raising r (front s)
+    filter (is_raise r) (fields_from Guard ExpressionStatement (fields p)) ≡ raises_from r x → (v : Bool) → v ≡ whole x → v ≡ raising r (front s)
 unfolding raising body
-found-one r s p x e f v g = g ∙ rw (← e) (some-pass (isRaise r) (fieldsFrom Guard ExpressionStatement (fields p)) (whole x) _ _ f)
+found-one r s p x e f v g = g ∙ rw (← e) (some-pass (is_raise r) (fields_from Guard ExpressionStatement (fields p)) (whole x) _ _ f)
 
 pub returns : goal.returns
 returns c = search found-one

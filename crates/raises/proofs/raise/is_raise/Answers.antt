@@ -3,22 +3,22 @@ use Rattle.std.proofs.Common.{ℕ, ◌≡◌, sym, Bool, true, false, not, List,
 use mathlib.Core.Bool.{and-false}
 use borrow.Author.Tests.{not-true, not-false}
 use Rattle.fields.specs.Field.{Field, tag}
-use Rattle.raises.specs.Raises.{assigns, setsFrom}
-use Rattle.raises.specs.Raising.{isRaise}
+use Rattle.raises.specs.Raises.{assigns, sets_from}
+use Rattle.raises.specs.Raising.{is_raise}
 use Rattle.raises.proofs.raise.is_raise.Goals as goal
 
 module _ (r : List ℕ) (s : Field) (t : ℕ) (f : t ≡ tag s) where
-  subtracts : t ≡ 0x15 → false ≡ isRaise r s
-  unfolding isRaise
+  subtracts : t ≡ 0x15 → false ≡ is_raise r s
+  unfolding is_raise
   subtracts d = rw (← f, eq-eqb t 0x15 d) (sym (and-false (assigns r s)))
 
   module _ (d : t ≡ 0x15 → ⊥) (a : Bool) (e : a ≡ assigns r s) where
-    no-assignment : not a ≡ true → false ≡ isRaise r s
-    unfolding isRaise
+    no-assignment : not a ≡ true → false ≡ is_raise r s
+    unfolding is_raise
     no-assignment h = rw (← e, not-true a h)
 
-    by-set : not a ≡ false → (b : Bool) → b ≡ setsFrom 0x49 r s → not b ≡ isRaise r s
-    unfolding isRaise
+    by-set : not a ≡ false → (b : Bool) → b ≡ sets_from 0x49 r s → not b ≡ is_raise r s
+    unfolding is_raise
     by-set h b g = rw (← e, not-false a h, ← f, ne_eqb t 0x15 d, ← g)
 
 pub returns-then-tag_of-eq-SUBTRACT_FROM : goal.returns-then-tag_of-eq-SUBTRACT_FROM

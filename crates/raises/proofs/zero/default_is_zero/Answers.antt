@@ -6,7 +6,7 @@ use Rattle.tags.specs.Tag.{State}
 use Rattle.fields.specs.Field.{fields}
 use Rattle.fields.proofs.Rows.{from_less}
 use Rattle.raises.specs.Raises.{is_zero, defaults}
-use Rattle.raises.specs.Raising.{defaultPasses}
+use Rattle.raises.specs.Raising.{default_passes}
 use Rattle.raises.proofs.Passing.{Passing, passing-end, passing-fails, passing-on}
 use Rattle.raises.proofs.Zeros.{defaults-all}
 use Rattle.raises.proofs.zero.default_is_zero.Goals as goal

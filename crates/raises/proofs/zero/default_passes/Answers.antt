@@ -1,26 +1,26 @@
 -- A state field of another name passes, and one with no default; else the default decides.
 use Rattle.std.proofs.Common.{ℕ, ◌≡◌, ◌∙◌, Bool, true, false, not, List, rules}
 use borrow.Author.Tests.{not-true, not-false}
-use Rattle.laws.specs.Texts.{sameBytes}
+use Rattle.laws.specs.Texts.{same_bytes}
 use Rattle.fields.specs.Field.{Field, front, part}
 use Rattle.model.specs.Model.{name_of}
 use Rattle.walking.specs.Walking.{present}
 use Rattle.raises.specs.Raises.{is_zero}
-use Rattle.raises.specs.Raising.{defaultPasses}
+use Rattle.raises.specs.Raising.{default_passes}
 use Rattle.raises.proofs.zero.default_passes.Goals as goal
 
-module _ (r : List ℕ) (s : Field) (x : List ℕ) (e : x ≡ name_of s) (a : Bool) (f : a ≡ sameBytes x r) where
-  other_name : not a ≡ true → true ≡ defaultPasses r s
-  unfolding defaultPasses
+module _ (r : List ℕ) (s : Field) (x : List ℕ) (e : x ≡ name_of s) (a : Bool) (f : a ≡ same_bytes x r) where
+  other_name : not a ≡ true → true ≡ default_passes r s
+  unfolding default_passes
   other_name h = rw (← e, ← f, not-true a h)
 
   module _ (h : not a ≡ false) (y : List ℕ) (g : front y ≡ part 2 s) (b : Bool) (k : b ≡ present (front y)) where
-    no_default : not b ≡ true → true ≡ defaultPasses r s
-    unfolding defaultPasses
+    no_default : not b ≡ true → true ≡ default_passes r s
+    unfolding default_passes
     no_default i = rw (← e, ← f, not-false a h, ← g, ← k, not-true b i)
 
-    by_default : not b ≡ false → (v : Bool) → v ≡ is_zero (front y) → v ≡ defaultPasses r s
-    unfolding defaultPasses
+    by_default : not b ≡ false → (v : Bool) → v ≡ is_zero (front y) → v ≡ default_passes r s
+    unfolding default_passes
     by_default i v o = o ∙ rw (← e, ← f, not-false a h, ← g, ← k, not-false b i)
 
 pub returns-then-not-same_bytes : goal.returns-then-not-same_bytes

@@ -5,8 +5,8 @@ use Rattle.laws.proofs.Told.{told_is, told-not, told-so}
 use Rattle.tags.specs.Tag.{Genesis}
 use Rattle.fields.specs.Field.{fields}
 use Rattle.fields.proofs.Rows.{from_less}
-use Rattle.raises.specs.Raises.{is_zero, genesisValues}
-use Rattle.raises.specs.Raising.{genesisPasses}
+use Rattle.raises.specs.Raises.{is_zero, genesis_values}
+use Rattle.raises.specs.Raising.{genesis_passes}
 use Rattle.raises.proofs.Passing.{Passing, passing-end, passing-fails, passing-on}
 use Rattle.raises.proofs.Zeros.{genesis-all}
 use Rattle.raises.proofs.zero.genesis_is_zero.Goals as goal

@@ -5,14 +5,14 @@ use Rattle.laws.proofs.Told.{told_is, told-not, told-so}
 use Rattle.tags.specs.Tag.{Genesis}
 use Rattle.fields.specs.Field.{fields}
 use Rattle.fields.proofs.Rows.{from_less}
-use Rattle.raises.specs.Raises.{is_zero, genesisValues}
-use Rattle.raises.specs.Raising.{genesisPasses}
+use Rattle.raises.specs.Raises.{is_zero, genesis_values}
+use Rattle.raises.specs.Raising.{genesis_passes}
 use Rattle.raises.proofs.Passing.{Passing, passing-end, passing-fails, passing-on}
 use Rattle.raises.proofs.Zeros.{genesis-all}
 use Rattle.raises.proofs.zero.genesis_is_zero.Given as goal
 
 abbrev pub invariant-loop-t : goal.invariant-loop-t
-invariant-loop-t l = Passing Genesis Genesis (genesisPasses l.name) l.t (all is_zero (genesisValues (fields l.file) l.name))
+invariant-loop-t l = Passing Genesis Genesis (genesis_passes l.name) l.t (all is_zero (genesis_values (fields l.file) l.name))
 
 abbrev pub decreases-loop-t : goal.decreases-loop-t
 decreases-loop-t l = length l.t

@@ -4,8 +4,8 @@ use Rattle.laws.proofs.Seeking.{Seeking, seeking-none}
 use Rattle.fields.specs.Table.{fields_at}
 use Rattle.laws.specs.Lists.{any}
 use Rattle.fields.specs.Field.{front}
-use Rattle.tokens.specs.Tokens.{isCredit}
-use Rattle.reserve_tokens.specs.Reserving.{withAmount}
+use Rattle.tokens.specs.Tokens.{is_credit}
+use Rattle.reserve_tokens.specs.Reserving.{with_amount}
 use Rattle.fields.proofs.AtPlaces.{field_at, fields-any, field_found, field-on}
 use Rattle.reserve_tokens.proofs.calls.is_credited.Goals as goal
 

@@ -4,23 +4,23 @@ use borrow.Author.Tests.{not-true, not-false}
 use Rattle.laws.proofs.Lists.{no-elements}
 use Rattle.laws.proofs.Slices.{tail_of}
 use Rattle.laws.proofs.Texts.{is_known}
-use Rattle.tags.specs.Tag.{isWrapper}
+use Rattle.tags.specs.Tag.{is_wrapper}
 use Rattle.fields.specs.Field.{fields, whole, front, tag, parts, part, nth, placed}
 use Rattle.fields.proofs.Inside.{parts-stand}
 use Rattle.fields.proofs.Reading.{fields-next, fields-end}
-use Rattle.walking.specs.Walking.{peel, peelPlace}
-use Rattle.tokens.specs.Tokens.{besideInAsset}
-use Rattle.tokens.specs.Numbers.{tokenOf}
+use Rattle.walking.specs.Walking.{peel, peel_place}
+use Rattle.tokens.specs.Tokens.{beside_in_asset}
+use Rattle.tokens.specs.Numbers.{token_of}
 use Rattle.tokens.proofs.Joining.{token-none, token-there}
-use Rattle.reserve_tokens.specs.ReserveTokens.{guardToken}
+use Rattle.reserve_tokens.specs.ReserveTokens.{guard_token}
 use Rattle.reserve_tokens.specs.Reserving.{Named}
 use Rattle.reserve_tokens.proofs.Guarding.{none_named}
 use Rattle.reserve_tokens.proofs.guard.guard_number.Goals as goal
 
 module _ (file : List ℕ) (at : ℕ) (s : List ℕ) (e : s ≡ drop at file) (p : List ℕ) (f : fields p ≡ parts (front s)) (b : Bool) (g : b ≡ whole p) where
   -- no expression
-  hollow : not b ≡ true → tokenOf file 0 ≡ guardToken (part 0 (front (drop at file)))
-  unfolding guardToken peel isWrapper nth
+  hollow : not b ≡ true → token_of file 0 ≡ guard_token (part 0 (front (drop at file)))
+  unfolding guard_token peel is_wrapper nth
   hollow h = rw (← token-none file 0 (omega arith), ← e, ← f, fields-end p (sym g ∙ not-true b h))
 
   module _ (h : not b ≡ false) (z : List ℕ) (i : z ≡ drop 3 s) where
@@ -34,27 +34,27 @@ module _ (file : List ℕ) (at : ℕ) (s : List ℕ) (e : s ≡ drop at file) (p
         ap (λ x. front x) u ∙ d ∙ v
 
     module _ (y : List ℕ) (j : front y ≡ peel (front z)) (t : ℕ) (k : t ≡ tag (front y)) where
-      no-equation : (t ≡ 0x42 → ⊥) → tokenOf file 0 ≡ guardToken (part 0 (front (drop at file)))
-      unfolding guardToken
+      no-equation : (t ≡ 0x42 → ⊥) → token_of file 0 ≡ guard_token (part 0 (front (drop at file)))
+      unfolding guard_token
       no-equation n = rw (← token-none file 0 (omega arith), ← e, ← first-there, ← j, ← k, ne_eqb t 0x42 n)
 
-      module _ (q : t ≡ 0x42) (x : List ℕ) (l : x ≡ besideInAsset (front y)) where
-        token-is : x ≡ guardToken (part 0 (front (drop at file)))
-        unfolding guardToken
+      module _ (q : t ≡ 0x42) (x : List ℕ) (l : x ≡ beside_in_asset (front y)) where
+        token-is : x ≡ guard_token (part 0 (front (drop at file)))
+        unfolding guard_token
         token-is = l ∙ rw (← e, ← first-there, ← j, ← k, eq-eqb t 0x42 q)
 
-        unnamed : length x ≡ 0 → tokenOf file 0 ≡ guardToken (part 0 (front (drop at file)))
+        unnamed : length x ≡ 0 → token_of file 0 ≡ guard_token (part 0 (front (drop at file)))
         unnamed m = rw (← token-none file 0 (omega arith)) (sym (no-elements x m) ∙ token-is)
 
-        module _ (m : y ≡ drop (peelPlace (length z) 0 (front z)) z) where
-          number-token : tokenOf file (length file - length y + 2) ≡ x
+        module _ (m : y ≡ drop (peel_place (length z) 0 (front z)) z) where
+          number-token : token_of file (length file - length y + 2) ≡ x
           number-token =
               let d : y ≡ drop (length file - length y) file =
-              tail_of file y (at + 3 + peelPlace (length z) 0 (front z)) (m ∙ rw (← drop-drop (peelPlace (length z) 0 (front z)) (at + 3) file, ← drop-drop 3 at file, ← e, ← i)) in
+              tail_of file y (at + 3 + peel_place (length z) 0 (front z)) (m ∙ rw (← drop-drop (peel_place (length z) 0 (front z)) (at + 3) file, ← drop-drop 3 at file, ← e, ← i)) in
               let o : length file - length y + 2 - 2 ≡ length file - length y = omega arith in
               sym (token-there file (length file - length y + 2) (omega arith) y (rw o d) x l)
 
-          number-reads : tokenOf file (length file - length y + 2) ≡ guardToken (part 0 (front (drop at file)))
+          number-reads : token_of file (length file - length y + 2) ≡ guard_token (part 0 (front (drop at file)))
           number-reads = number-token ∙ token-is
 
           number-named : (length x ≡ 0 → ⊥) → Named file (length file - length y + 2)

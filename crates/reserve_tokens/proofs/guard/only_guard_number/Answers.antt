@@ -3,7 +3,7 @@ use Rattle.std.proofs.Common.{arith, rules, length, drop}
 use Rattle.laws.proofs.Told.{told_is}
 use Rattle.fields.specs.Field.{front}
 use Rattle.fields.proofs.Rows.{from_less}
-use Rattle.reserve_tokens.specs.ReserveTokens.{guardTokens, only}
+use Rattle.reserve_tokens.specs.ReserveTokens.{guard_tokens, only}
 use Rattle.reserve_tokens.proofs.Guarding.{Guarding, guarding-all, guarding-end, guarding-second, guarding-on}
 use Rattle.reserve_tokens.proofs.guard.only_guard_number.Goals as goal
 

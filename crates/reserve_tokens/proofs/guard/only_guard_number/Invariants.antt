@@ -3,12 +3,12 @@ use Rattle.std.proofs.Common.{arith, rules, length, drop}
 use Rattle.laws.proofs.Told.{told_is}
 use Rattle.fields.specs.Field.{front}
 use Rattle.fields.proofs.Rows.{from_less}
-use Rattle.reserve_tokens.specs.ReserveTokens.{guardTokens, only}
+use Rattle.reserve_tokens.specs.ReserveTokens.{guard_tokens, only}
 use Rattle.reserve_tokens.proofs.Guarding.{Guarding, guarding-all, guarding-end, guarding-second, guarding-on}
 use Rattle.reserve_tokens.proofs.guard.only_guard_number.Given as goal
 
 abbrev pub invariant-loop-parts : goal.invariant-loop-parts
-invariant-loop-parts l = Guarding l.file l.place l.parts l.t l.found (only (guardTokens (front (drop l.place l.file))))
+invariant-loop-parts l = Guarding l.file l.place l.parts l.t l.found (only (guard_tokens (front (drop l.place l.file))))
 
 abbrev pub decreases-loop-parts : goal.decreases-loop-parts
 decreases-loop-parts l = length l.t

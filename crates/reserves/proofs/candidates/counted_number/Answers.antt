@@ -6,30 +6,30 @@ use Rattle.fields.specs.Table.{fields_at}
 use Rattle.laws.specs.Lists.{any}
 use Rattle.fields.specs.Field.{Field, Fields, front}
 use Rattle.model.specs.Model.{body}
-use Rattle.equality.specs.Equality.{exprEq}
-use Rattle.guards.specs.Guards.{guardedField, guardedAmount, lowers}
-use Rattle.guards.specs.Lowerings.{mayLower}
-use Rattle.reserves.specs.Candidates.{LoweringsOf, counts, stateNumber, countedNumber}
+use Rattle.equality.specs.Equality.{expr_eq}
+use Rattle.guards.specs.Guards.{guarded_field, guarded_amount, lowers}
+use Rattle.guards.specs.Lowerings.{may_lower}
+use Rattle.reserves.specs.Candidates.{LoweringsOf, counts, state_number, counted_number}
 use Rattle.guards.proofs.Lowerings.{lowerings-decide}
 use Rattle.reserves.proofs.candidates.counted_number.Goals as goal
 
-module _ (model : Fields) (amounts : List Field) (entry : List ℕ) (g : Field) (x : List ℕ) (i : front x ≡ guardedAmount g)
-    (a : Bool) (d : a ≡ any (exprEq (front x)) amounts) where
-  not-asked : not a ≡ true → 0 ≡ countedNumber model amounts (front entry) g
-  unfolding countedNumber counts
+module _ (model : Fields) (amounts : List Field) (entry : List ℕ) (g : Field) (x : List ℕ) (i : front x ≡ guarded_amount g)
+    (a : Bool) (d : a ≡ any (expr_eq (front x)) amounts) where
+  not-asked : not a ≡ true → 0 ≡ counted_number model amounts (front entry) g
+  unfolding counted_number counts
   not-asked h = rw (← i, ← d, not-true a h)
 
-  module _ (h : not a ≡ false) (n : List ℕ) (e : n ≡ guardedField g) (table : List ℕ) (l : LoweringsOf amounts entry table)
-      (b : Bool) (f : b ≡ any (mayLower (front x) n) (fields_at entry table)) where
+  module _ (h : not a ≡ false) (n : List ℕ) (e : n ≡ guarded_field g) (table : List ℕ) (l : LoweringsOf amounts entry table)
+      (b : Bool) (f : b ≡ any (may_lower (front x) n) (fields_at entry table)) where
     lowered : b ≡ any (lowers (front x) n) (body (front entry))
     lowered = f ∙ rw l.read (lowerings-decide amounts (front x) (sym d ∙ not-false a h) n (front entry))
 
-    not-lowered : not b ≡ true → 0 ≡ countedNumber model amounts (front entry) g
-    unfolding countedNumber counts
+    not-lowered : not b ≡ true → 0 ≡ counted_number model amounts (front entry) g
+    unfolding counted_number counts
     not-lowered k = rw (← i, ← d, ← e, ← lowered, not-false a h, not-true b k)
 
-    by_state : not b ≡ false → (r : ℕ) → r ≡ stateNumber model n → r ≡ countedNumber model amounts (front entry) g
-    unfolding stateNumber countedNumber counts
+    by_state : not b ≡ false → (r : ℕ) → r ≡ state_number model n → r ≡ counted_number model amounts (front entry) g
+    unfolding state_number counted_number counts
     by_state k r m = m ∙ rw (← i, ← d, ← e, ← lowered, not-false a h, not-false b k)
 
 pub returns-then-not-is_asked : goal.returns-then-not-is_asked

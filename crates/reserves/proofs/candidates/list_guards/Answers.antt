@@ -8,9 +8,9 @@ use Rattle.fields.proofs.Reading.{front-none, after_less}
 use Rattle.fields.proofs.Tables.{listed-none}
 use Rattle.fields.proofs.Listing.{parts-shorter, along-fits, Listing, listing-all, listing-on, listing-done}
 use Rattle.walking.specs.Table.{placed_at}
-use Rattle.guards.specs.Asked.{askedAmounts}
-use Rattle.reserves.specs.Candidates.{LoweringsOf, candidateNumbers}
-use Rattle.reserves.proofs.Counting.{manyOf, candidate-row, candidate-fits, candidate-noted}
+use Rattle.guards.specs.Asked.{asked_amounts}
+use Rattle.reserves.specs.Candidates.{LoweringsOf, candidate_numbers}
+use Rattle.reserves.proofs.Counting.{many_of, candidate-row, candidate-fits, candidate-noted}
 use Rattle.reserves.proofs.candidates.list_guards.Goals as goal
 
 module _ (file : List ℕ) (place : ℕ) (s : List ℕ) (e : s ≡ drop place file) (w : whole s ≡ true) (small : length file < 2 ^ 64) where
@@ -24,22 +24,22 @@ module _ (file : List ℕ) (amounts : List Field) (place : ℕ) (t s : List ℕ)
   lowerings-here : LoweringsOf amounts (drop place file) t → LoweringsOf amounts s t
   lowerings-here l = rw e l
 
-  no-entry : whole s ≡ false → Listed (candidateNumbers (fields file) amounts (placed_at file place)) t 0 t 0
-  unfolding candidateNumbers flat_map placed
+  no-entry : whole s ≡ false → Listed (candidate_numbers (fields file) amounts (placed_at file place)) t 0 t 0
+  unfolding candidate_numbers flat_map placed
   no-entry w = rw (← e, front-none s w) (listed-none t 0)
 
   first : whole s ≡ true → length file < 2 ^ 64 → (x : List ℕ) → x ≡ take (sizes (parts (front s))) (drop 3 s) →
-      Listing manyOf (fields file, amounts, front s) x (place + 3) t 0 t x (place + 3) 0
+      Listing many_of (fields file, amounts, front s) x (place + 3) t 0 t x (place + 3) 0
   first w small x f =
       let l : length s ≡ length file - place = rw (e, length-drop) in
       let k = parts-shorter s w x f in
       let o = long file place s e w small in
-      listing-all manyOf (fields file, amounts, front s) x (place + 3) t 0 (record { place = omega (arith, o); count = omega (arith, o) })
+      listing-all many_of (fields file, amounts, front s) x (place + 3) t 0 (record { place = omega (arith, o); count = omega (arith, o) })
 
   all_listed : (x : List ℕ) → fields x ≡ parts (front s) → (last u : List ℕ) (at m : ℕ) →
-      Listing manyOf (fields file, amounts, front s) x (place + 3) t 0 last u at m → whole u ≡ false →
-      Listed (candidateNumbers (fields file) amounts (placed_at file place)) t 0 last m
-  unfolding candidateNumbers
+      Listing many_of (fields file, amounts, front s) x (place + 3) t 0 last u at m → whole u ≡ false →
+      Listed (candidate_numbers (fields file) amounts (placed_at file place)) t 0 last m
+  unfolding candidate_numbers
   all_listed x f last u at m i w = rw (← e, ← f) (listing-done candidate-row (fields file, amounts, front s) x (place + 3) t 0 last u at m i w)
 
 pub returns-then-not-is_whole : goal.returns-then-not-is_whole

@@ -1,13 +1,13 @@
 -- A guard's expression is its first part.
 use Rattle.std.proofs.Common.{◌≡◌, List, ℕ, rules, drop}
 use Rattle.fields.specs.Field.{front, part}
-use Rattle.guards.specs.Guards.{guardedAmount}
-use Rattle.reserves.specs.Covers.{amountAt}
+use Rattle.guards.specs.Guards.{guarded_amount}
+use Rattle.reserves.specs.Covers.{amount_at}
 use Rattle.reserves.proofs.covering.amount_at.Goals as goal
 
-amount-read : (file s x y : List ℕ) (n : ℕ) → s ≡ drop n file → front x ≡ part 0 (front s) → front y ≡ guardedAmount (front x) →
-    front y ≡ amountAt file n
-unfolding amountAt
+amount-read : (file s x y : List ℕ) (n : ℕ) → s ≡ drop n file → front x ≡ part 0 (front s) → front y ≡ guarded_amount (front x) →
+    front y ≡ amount_at file n
+unfolding amount_at
 amount-read file s x y n e f g = rw (← e, ← f) g
 
 pub returns : goal.returns

@@ -2,22 +2,22 @@
 use Rattle.std.proofs.Common.{ℕ, ◌≡◌, ◌∙◌, Bool, true, false, cond, not, List, rules, drop}
 use borrow.Author.Tests.{not-true, not-false}
 use Rattle.fields.specs.Field.{Field, front}
-use Rattle.guards.specs.Guards.{containsInflow}
-use Rattle.guards.specs.Asked.{askedToken}
-use Rattle.reserves.specs.Holding.{holdsToken}
-use Rattle.reserves.specs.Covers.{firstCovering}
+use Rattle.guards.specs.Guards.{contains_inflow}
+use Rattle.guards.specs.Asked.{asked_token}
+use Rattle.reserves.specs.Holding.{holds_token}
+use Rattle.reserves.specs.Covers.{first_covering}
 use Rattle.reserves.specs.declared.covering.Reserve.{Reserve}
 use Rattle.reserves.specs.declared.covering.Reserve.TheVariants.{Nothing}
 use Rattle.reserves.proofs.covering.first_contained.Goals as goal
 
-module _ (file : List ℕ) (place : ℕ) (asked : List ℕ) (k : ℕ) (v : Field) (l x : List ℕ) (e : x ≡ drop place file) (b : Bool) (f : b ≡ containsInflow (front x) v) where
+module _ (file : List ℕ) (place : ℕ) (asked : List ℕ) (k : ℕ) (v : Field) (l x : List ℕ) (e : x ≡ drop place file) (b : Bool) (f : b ≡ contains_inflow (front x) v) where
   abbrev wanted : Reserve
-  wanted = cond (containsInflow (front (drop place file)) v) (firstCovering file v (holdsToken file (askedToken file asked k)) l) Nothing
+  wanted = cond (contains_inflow (front (drop place file)) v) (first_covering file v (holds_token file (asked_token file asked k)) l) Nothing
 
   not-contained : not b ≡ true → Nothing ≡ wanted
   not-contained h = rw (← e, ← f, not-true b h)
 
-  contained : not b ≡ false → (t : List ℕ) → t ≡ askedToken file asked k → (r : Reserve) → r ≡ firstCovering file v (holdsToken file t) l → r ≡ wanted
+  contained : not b ≡ false → (t : List ℕ) → t ≡ asked_token file asked k → (r : Reserve) → r ≡ first_covering file v (holds_token file t) l → r ≡ wanted
   contained h t g r q = q ∙ rw (g, ← e, ← f, not-false b h)
 
 pub returns-then-not-contains_inflow-clause-found : goal.returns-then-not-contains_inflow-clause-found

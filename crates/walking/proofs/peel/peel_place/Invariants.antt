@@ -2,22 +2,22 @@
 use Rattle.std.proofs.Common.{◌≡◌, refl, sym, ap, ◌∙◌, Bool, true, false, not, cond, List, [], ◌++◌, append-nil, append_assoc, ℕ, ◌+◌, ◌-◌, ◌^◌, ◌≤◌, ◌<◌, min, arith, leb-true, w64, Fits, length, take, drop, length-take, length-drop, take-append-drop, drop-drop}
 use borrow.Author.Tests.{not-true, not-false}
 use lib.Seq.{take-append_seam, drop-append-le, drop-length}
-use Rattle.tags.specs.Tag.{isWrapper}
+use Rattle.tags.specs.Tag.{is_wrapper}
 use Rattle.fields.specs.Field.{Field, fields, whole, length_of, front, tag, parts, sizes}
 use Rattle.fields.specs.Field.Field.{field}
 use Rattle.fields.specs.Field.Fields.{end}
 use Rattle.fields.proofs.Reading.{fields-next, fields-end, front-none}
 use Rattle.fields.proofs.Inside.{front-inside}
-use Rattle.walking.specs.Walking.{peel, peelFirst, peelPlace, peelFirstPlace}
+use Rattle.walking.specs.Walking.{peel, peel_first, peel_place, peel_first_place}
 use Rattle.walking.proofs.peel.peel_place.Given as goal
 
 -- one step of peeling, by the field's tag and parts
-pub peel-step : (f : Field) → peel f ≡ cond (isWrapper (tag f)) (peelFirst (parts f)) f
+pub peel-step : (f : Field) → peel f ≡ cond (is_wrapper (tag f)) (peel_first (parts f)) f
 unfolding peel
 peel-step (field t x ps) = refl
 
-pub place-step : (last n : ℕ) (f : Field) → peelPlace last n f ≡ cond (isWrapper (tag f)) (peelFirstPlace last (n + 3) (parts f)) n
-unfolding peelPlace
+pub place-step : (last n : ℕ) (f : Field) → peel_place last n f ≡ cond (is_wrapper (tag f)) (peel_first_place last (n + 3) (parts f)) n
+unfolding peel_place
 place-step last n (field t x ps) = refl
 
 -- a whole field is the same with more bytes behind it
@@ -32,25 +32,25 @@ pub record Peeling (s t : List ℕ) (at : ℕ) : Type 0 where
   pub within : at + length t ≤ length s
   pub here : front t ≡ front (drop at s)
   pub inner : peel (front t) ≡ peel (front s)
-  pub stands : peelPlace (length s) at (front t) ≡ peelPlace (length s) 0 (front s)
+  pub stands : peel_place (length s) at (front t) ≡ peel_place (length s) 0 (front s)
 
 pub peeling-all : (s : List ℕ) → Peeling s s 0
 peeling-all s =
     record { behind = []; shows = append-nil s; within = omega arith; here = refl; inner = refl; stands = refl }
 
-module _ (s t : List ℕ) (at : ℕ) (i : Peeling s t at) (g : ℕ) (e : g ≡ tag (front t)) (v : Bool) (f : v ≡ isWrapper g) where
+module _ (s t : List ℕ) (at : ℕ) (i : Peeling s t at) (g : ℕ) (e : g ≡ tag (front t)) (v : Bool) (f : v ≡ is_wrapper g) where
   module _ (n : not v ≡ true) where
     pub stop : front (drop at s) ≡ peel (front s)
     stop = sym i.here ∙ sym (rw (peel-step (front t), ← e, ← f, not-true v n)) ∙ i.inner
 
-    pub stop-place : at ≡ peelPlace (length s) 0 (front s)
+    pub stop-place : at ≡ peel_place (length s) 0 (front s)
     stop-place = sym (rw (place-step (length s) at (front t), ← e, ← f, not-true v n)) ∙ i.stands
 
   module _ (y : not v ≡ false) (u : List ℕ) (p : fields u ≡ parts (front t)) (w : Bool) (h : w ≡ whole u) where
-    pub through : peelFirst (fields u) ≡ peel (front s)
+    pub through : peel_first (fields u) ≡ peel (front s)
     through = sym (rw (peel-step (front t), ← e, ← f, not-false v y, ← p)) ∙ i.inner
 
-    pub through-place : peelFirstPlace (length s) (at + 3) (fields u) ≡ peelPlace (length s) 0 (front s)
+    pub through-place : peel_first_place (length s) (at + 3) (fields u) ≡ peel_place (length s) 0 (front s)
     through-place = sym (rw (place-step (length s) at (front t), ← e, ← f, not-false v y, ← p)) ∙ i.stands
 
     module _ (n : not w ≡ true) where
@@ -58,11 +58,11 @@ module _ (s t : List ℕ) (at : ℕ) (i : Peeling s t at) (g : ℕ) (e : g ≡ t
       none = fields-end u (sym h ∙ not-true w n)
 
       pub empty : front (drop (length s) s) ≡ peel (front s)
-      unfolding peelFirst
+      unfolding peel_first
       empty = ap (λ x. front x) (drop-length s) ∙ front-none [] refl ∙ rw none at through
 
-      pub empty-place : length s ≡ peelPlace (length s) 0 (front s)
-      unfolding peelFirstPlace
+      pub empty-place : length s ≡ peel_place (length s) 0 (front s)
+      unfolding peel_first_place
       empty-place = rw none at through-place
 
     module _ (m : not w ≡ false) (q : u ≡ take (sizes (parts (front t))) (drop 3 t)) where
@@ -100,7 +100,7 @@ module _ (s t : List ℕ) (at : ℕ) (i : Peeling s t at) (g : ℕ) (e : g ≡ t
           ∙ drop-drop 3 at s
 
       pub on : Peeling s u (at + 3)
-      unfolding peelFirst peelFirstPlace
+      unfolding peel_first peel_first_place
       on =
           let l = shorter in
           let j = i.within in

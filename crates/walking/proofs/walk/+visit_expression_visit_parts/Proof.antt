@@ -1,10 +1,10 @@
 -- An expression lists itself and then its parts; of a list of parts, whoever lists what is left has listed all.
 use Rattle.std.proofs.Common.{◌+◌, ◌*◌, arith, rules, length}
 use Rattle.laws.proofs.Told.{told}
-use Rattle.tags.specs.Tag.{isExpression}
+use Rattle.tags.specs.Tag.{is_expression}
 use Rattle.fields.proofs.Reading.{after_less}
 use Rattle.fields.proofs.Listing.{class-whole, down-note, down_fits, down-falls, down-noted, along-fits, Listing, listing-all, listing-on, listing-done}
-use Rattle.walking.specs.Walking.{walkParts}
+use Rattle.walking.specs.Walking.{walk_parts}
 use Rattle.walking.specs.Table.{places_of}
 use Rattle.walking.proofs.Visits.{expression-zero, no-expression, expression-parts, expression-alone, expressions}
 use Rattle.walking.proofs.walk.visit_expression.Reads as visit-expression
@@ -31,17 +31,17 @@ pub +visit_expression_visit_parts_spec : {M : Type 1} → statement M
     (λ c κs. search rules)  -- visit-expression-tag-of-requires
     (λ c κs. search rules)  -- visit-expression-is-expression-requires
     (λ c. search no-expression)  -- visit-expression-returns
-    (λ c κs. (search rules, search (down-note, class-whole isExpression expression-zero)))  -- visit-expression-note-requires
+    (λ c κs. (search rules, search (down-note, class-whole is_expression expression-zero)))  -- visit-expression-note-requires
     (λ c κs. search rules)  -- visit-expression-parts-of-requires
     (λ c. search rules)  -- visit-expression-same-length
     (λ c. search expression-alone)  -- visit-expression-returns-2
-    (λ c. search (down_fits, class-whole isExpression expression-zero))  -- visit-expression-add-visit-parts
-    (λ c κs. search (down-falls, down-noted, class-whole isExpression expression-zero))  -- visit-expression-visit-parts-requires
+    (λ c. search (down_fits, class-whole is_expression expression-zero))  -- visit-expression-add-visit-parts
+    (λ c κs. search (down-falls, down-noted, class-whole is_expression expression-zero))  -- visit-expression-visit-parts-requires
     (λ c. omega arith)  -- visit-expression-same-length-2
     (λ c. search expression-parts))  -- visit-expression-returns-3
     λ t. visit-parts-lts.spec
     (_, is-whole-reads.Learnt, _, visit-expression.Post, _, length-of-reads.Learnt, _, after-front-reads.Learnt) _ visit-parts.Post
-    (λ s base tag table₀ n t₀ at₀ m₀ table t at m. Listing (λ t k fs. places_of t (walkParts k fs)) tag s base table₀ n table t at m)  -- visit-parts-Inv-loop
+    (λ s base tag table₀ n t₀ at₀ m₀ table t at m. Listing (λ t k fs. places_of t (walk_parts k fs)) tag s base table₀ n table t at m)  -- visit-parts-Inv-loop
     (λ s base tag table₀ n t₀ at₀ m₀ table t at m. length t)  -- visit-parts-μ-loop
     (λ c. search listing-all)  -- visit-parts-loop-holds
     (λ c κs. search rules)  -- visit-parts-is-whole-requires

@@ -5,7 +5,7 @@ use Rattle.laws.specs.Lists.{filter}
 use Rattle.laws.proofs.Told.{told}
 use Rattle.fields.specs.Field.{fields, length_of, whole, front, parts, sizes, placed}
 use Rattle.fields.proofs.Reading.{front-none}
-use Rattle.walking.specs.Walking.{stmtExprs, bodyExprs}
+use Rattle.walking.specs.Walking.{stmt_exprs, body_exprs}
 use Rattle.fields.specs.Table.{Listed, Room}
 use Rattle.walking.specs.Table.{placed_at, places_of}
 use Rattle.fields.proofs.Tables.{listed-none}
@@ -13,8 +13,8 @@ use Rattle.fields.proofs.Listing.{parts-shorter}
 use Rattle.walking.proofs.walk.list_body.Goals as goal
 
 module _ (file : List ℕ) (place wanted : ℕ) (t s : List ℕ) (e : s ≡ drop place file) where
-  no-entry : whole s ≡ false → Listed (places_of wanted (bodyExprs (placed_at file place))) t 0 t 0
-  unfolding bodyExprs flat_map placed filter
+  no-entry : whole s ≡ false → Listed (places_of wanted (body_exprs (placed_at file place))) t 0 t 0
+  unfolding body_exprs flat_map placed filter
   no-entry w = rw (← e, front-none s w) (listed-none t 0)
 
   module _ (w : whole s ≡ true) (small : length file < 2 ^ 64) where
@@ -31,8 +31,8 @@ module _ (file : List ℕ) (place wanted : ℕ) (t s : List ℕ) (e : s ≡ drop
         record { place = omega (arith, long); count = omega (arith, long) }
 
   entry-body : (x : List ℕ) → fields x ≡ parts (front s) → (u : List ℕ) (r : ℕ) →
-      Listed (places_of wanted (flat_map stmtExprs (placed (place + 3) (fields x)))) t 0 u r → Listed (places_of wanted (bodyExprs (placed_at file place))) t 0 u r
-  unfolding bodyExprs
+      Listed (places_of wanted (flat_map stmt_exprs (placed (place + 3) (fields x)))) t 0 u r → Listed (places_of wanted (body_exprs (placed_at file place))) t 0 u r
+  unfolding body_exprs
   entry-body x f u r p = rw (← e, ← f) p
 
 pub returns-then-not-is_whole : goal.returns-then-not-is_whole

@@ -3,7 +3,7 @@ use Rattle.std.proofs.Common.{flat_map, arith, rules, length}
 use Rattle.laws.proofs.Told.{told}
 use Rattle.fields.specs.Field.{placed}
 use Rattle.fields.proofs.Reading.{after_less}
-use Rattle.walking.specs.Walking.{stmtExprs}
+use Rattle.walking.specs.Walking.{stmt_exprs}
 use Rattle.walking.specs.Table.{places_of}
 use Rattle.fields.proofs.Listing.{along-fits, Listing, listing-all, listing-on, listing-done}
 use Rattle.walking.proofs.Visits.{statements}

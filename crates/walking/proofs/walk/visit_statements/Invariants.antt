@@ -3,14 +3,14 @@ use Rattle.std.proofs.Common.{flat_map, arith, rules, length}
 use Rattle.laws.proofs.Told.{told}
 use Rattle.fields.specs.Field.{placed}
 use Rattle.fields.proofs.Reading.{after_less}
-use Rattle.walking.specs.Walking.{stmtExprs}
+use Rattle.walking.specs.Walking.{stmt_exprs}
 use Rattle.walking.specs.Table.{places_of}
 use Rattle.fields.proofs.Listing.{along-fits, Listing, listing-all, listing-on, listing-done}
 use Rattle.walking.proofs.Visits.{statements}
 use Rattle.walking.proofs.walk.visit_statements.Given as goal
 
 abbrev pub invariant-loop-t : goal.invariant-loop-t
-invariant-loop-t l = Listing (λ t k fs. places_of t (flat_map stmtExprs (placed k fs))) l.tag l.s l.base l.initial.table l.n l.table l.t l.at l.m
+invariant-loop-t l = Listing (λ t k fs. places_of t (flat_map stmt_exprs (placed k fs))) l.tag l.s l.base l.initial.table l.n l.table l.t l.at l.m
 
 abbrev pub decreases-loop-t : goal.decreases-loop-t
 decreases-loop-t l = length l.t
