@@ -1,10 +1,10 @@
 -- The marks by number: a number past the last of 64 has none, and a search passes over the numbers that do not match.
-use Rattle.std.proofs.Common.{ℕ, suc, ◌+◌, ◌-◌, ◌≤◌, ◌<◌, ◌≡◌, refl, sym, ap, ◌∙◌, Bool, true, false, cond, not, ◌&&◌, List, [], arith, lt-ltb, le-ltb, eq-eqb, ne_eqb, eqb, ltb, length, get_or, set}
+use Rattle.std.proofs.Common.{ℕ, suc, ◌+◌, ◌-◌, ◌≤◌, ◌<◌, ◌≡◌, sym, ◌∙◌, Bool, true, false, not, ◌&&◌, List, arith, lt-ltb, le-ltb, eq-eqb, ne_eqb, eqb, ltb, get_or, set}
 use borrow.Author.Tests.{not-true, not-false}
 use Rattle.laws.proofs.Scanning.{Scanning, scanning-none, scanning-found}
 use Rattle.laws.specs.Numbers.{first_from, down_from}
 use Rattle.laws.specs.Lists.{any}
-use Rattle.fields.specs.Field.{Field, front}
+use Rattle.fields.specs.Field.{front}
 use Rattle.walking.specs.Walking.{peel}
 use Rattle.equality.specs.Equality.{expr_eq}
 use Rattle.bounds.specs.Bounds.{bounded_by_backing}

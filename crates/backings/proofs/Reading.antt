@@ -1,5 +1,5 @@
 -- The backings by number, as the code reads them.
-use Rattle.std.proofs.Common.{ℕ, ◌≤◌, ◌<◌, ◌≡◌, refl, ◌∙◌, Bool, true, false, not, List, arith, lt-ltb, le-ltb, length, get_or, drop, length-drop}
+use Rattle.std.proofs.Common.{ℕ, ◌≤◌, ◌<◌, ◌≡◌, refl, Bool, true, false, not, List, arith, lt-ltb, le-ltb, length, get_or, drop, length-drop}
 use Rattle.fields.specs.Field.{fields, front, part}
 use Rattle.model.specs.Model.{name_of}
 use Rattle.walking.specs.Walking.{peel, receiver}

@@ -34,7 +34,6 @@ fn debit_amount(s: &[u8]) -> &[u8]
 }
 
 // A backing: where it stands in the file, and whether it is a debit.
-#[derive(Drop)]
 #[derive(Clone, Copy)]
 pub struct Backing {
     pub at: usize,

@@ -16,7 +16,6 @@ use guards::payout::payout_amount;
 use walking::peel::peel;
 
 // Backings by number, at most 64, and the state fields that are used, at most one for each of 64 payouts.
-#[derive(Drop)]
 #[derive(Clone, Copy)]
 pub struct Marks {
     pub free: [bool; 64],

@@ -1,5 +1,7 @@
 // SPDX-License-Identifier: Apache-2.0 OR MIT
 // Whether a backing bounds an amount. An expression is the part of the file that starts with it.
+#![tactic(auto)]
+
 ghost use Rattle.std.specs.Prelude.{◌≡◌};
 ghost use Rattle.fields.specs.Field.{front};
 ghost use Rattle.equality.specs.Equality.{expr_eq};

@@ -1,6 +1,7 @@
 -- Demand 3, second half: where each payout's amount equals some backing's, each takes the next one of its amount, and nothing
 -- else is taken.
-use Rattle.std.proofs.Common.{ℕ, zero, suc, ◌<◌, arith, not-suc-le-zero, ◌≡◌, refl, sym, ap, ◌∙◌, Bool, true, false, ◌||◌, List, [], ◌∷◌, Option, length, get_or, take, drop}
+use Rattle.std.proofs.Common.{ℕ, zero, suc, ◌<◌, arith, not-suc-le-zero, ◌≡◌, refl, sym, ap, ◌∙◌, Bool, true, false, ◌||◌, List, [], ◌∷◌, length, get_or, take, drop}
+use mathlib.Core.Option.{Option}
 use mathlib.Core.Bool.{false≢true}
 use mathlib.Core.Option.{none, some}
 use lib.ListN.{get_elem?}

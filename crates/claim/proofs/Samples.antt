@@ -1,5 +1,6 @@
 -- Entries written by hand, and what the definitions say of them.
-use Rattle.std.proofs.Common.{ℕ, List, [], ◌++◌, map, flat_map, length}
+use Rattle.std.proofs.Common.{ℕ, List, [], ◌++◌, map, length}
+use mathlib.Core.List.{flat_map}
 use Prim.Native.String.{String}
 use Rattle.laws.specs.Lists.{any, all, filter, find, remove_first, position, numbered}
 use Rattle.laws.specs.Texts.{same_bytes, known}

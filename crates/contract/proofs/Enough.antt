@@ -1,6 +1,7 @@
 -- 12,608 bytes hold the records of every file: at most 64 entries with at most 64 payouts each. The numbers of a verdict fit in
 -- two bytes, so they can be read back.
-use Rattle.std.proofs.Common.{ℕ, zero, suc, ◌+◌, ◌*◌, ◌/◌, ◌%◌, ◌≤◌, ◌<◌, ◌≡◌, refl, List, [], flat_map, arith, length, length-append}
+use Rattle.std.proofs.Common.{ℕ, zero, suc, ◌*◌, ◌≤◌, ◌<◌, ◌≡◌, refl, List, [], arith, length, length-append}
+use mathlib.Core.List.{flat_map}
 use lib.Seq.{drop-nil}
 use Rattle.fields.specs.Field.{Field, fields, nothing}
 use Rattle.model.specs.Model.{entries}

@@ -1,12 +1,14 @@
 -- Each "no" has a small number, and a place in the file: places go up field by field, and the fields take the file's bytes.
-use Rattle.std.proofs.Common.{ℕ, zero, suc, ◌+◌, ◌*◌, ◌%◌, ◌≤◌, ◌<◌, ◌≡◌, refl, sym, ap, ◌∙◌, Bool, true, false, not, ◌||◌, List, [], ◌∷◌, ◌++◌, map, Option, arith, leb-true, leb, ltb, length, get_or, drop, get_or-drop}
+use Rattle.std.proofs.Common.{ℕ, zero, suc, ◌+◌, ◌*◌, ◌%◌, ◌≤◌, ◌<◌, ◌≡◌, refl, sym, ap, ◌∙◌, Bool, true, false, not, ◌||◌, List, [], ◌∷◌, ◌++◌, map, arith, leb-true, leb, ltb, length}
+use Rattle.std.proofs.Common.{get_or, drop, get_or-drop}
+use mathlib.Core.Option.{Option}
 use mathlib.Core.Option.{none, some}
 use lib.ListN.{get_or-map}
 use Rattle.laws.specs.Lists.{any, filter}
 use Rattle.laws.specs.Texts.{same_bytes}
 use Rattle.laws.proofs.Lists.{Every, every-filter, every-at}
 use Rattle.tags.specs.Tag.{State, Entry, Call, is_expression, between}
-use Rattle.fields.specs.Field.{Field, Fields, Placed, fields, nothing, tag, size, sizes, placed, placed_from}
+use Rattle.fields.specs.Field.{Field, Fields, Placed, fields, tag, size, sizes, placed, placed_from}
 use Rattle.fields.specs.Field.Field.{field}
 use Rattle.fields.specs.Field.Fields.{end, next}
 use Rattle.fields.proofs.Inside.{Stands}

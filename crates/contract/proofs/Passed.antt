@@ -1,5 +1,5 @@
 -- What the questions say of a file and of an entry that pass them.
-use Rattle.std.proofs.Common.{ℕ, ◌*◌, ◌≤◌, ◌≡◌, refl, ap, true, false, List, [], ◌∷◌, arith, leb-true, leb, ltb, length, drop, length-drop}
+use Rattle.std.proofs.Common.{ℕ, ◌*◌, ◌≤◌, ◌≡◌, refl, ap, List, [], ◌∷◌, arith, leb-true, leb, ltb, length, drop, length-drop}
 use mathlib.Core.Bool.{false≢true}
 use Rattle.laws.specs.Lists.{filter}
 use Rattle.fields.specs.Field.{Fields, Placed, fields}

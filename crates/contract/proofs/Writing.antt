@@ -1,5 +1,6 @@
 -- A record is written piece by piece: what it is, its two numbers, and the covers of an accepted entry.
-use Rattle.std.proofs.Common.{ℕ, ◌+◌, ◌-◌, ◌*◌, ◌/◌, ◌%◌, ◌^◌, ◌≤◌, ◌<◌, ◌≡◌, refl, sym, ap, ◌∙◌, cond, List, [], ◌∷◌, ◌++◌, append-nil, arith, eq-eqb, ne_eqb, w64, Fits, eqb, length, take, drop, length-append}
+use Rattle.std.proofs.Common.{ℕ, ◌-◌, ◌*◌, ◌/◌, ◌%◌, ◌^◌, ◌≤◌, ◌<◌, ◌≡◌, refl, sym, ap, ◌∙◌, cond, List, [], ◌∷◌, ◌++◌, append-nil, arith, eq-eqb, ne_eqb, w64, Fits, eqb, length, take, drop}
+use Rattle.std.proofs.Common.{length-append}
 use lib.Seq.{drop-nil, take-append_seam}
 use Rattle.fields.specs.Field.{Field, fields}
 use Rattle.walking.specs.Table.{placed_at}

@@ -1,3 +1,5 @@
 // The verdicts on all entries of a file at once.
+#![tactic(auto)]
+
 pub mod numbers;
 pub mod records;

@@ -8,7 +8,6 @@ use matching::answer::Reason;
 use verdict::entry::Verdict;
 
 // What the verdict is, 0 accepted, 1 rejected, 2 refused, and two numbers beside (specs/Answer).
-#[derive(Drop)]
 #[derive(Clone, Copy)]
 pub struct Numbers {
     pub outcome: u8,

@@ -1,5 +1,6 @@
 -- What a reading step found says how the bytes from its place on are read.
-use Rattle.std.proofs.Common.{ℕ, ◌+◌, ◌-◌, ◌^◌, ◌≤◌, ◌<◌, ◌≡◌, refl, sym, ap, ◌∙◌, Bool, true, false, cond, List, [], arith, le-leb, leb-true, leb-false, w64, Fits, leb, length, take, drop, length-drop, drop-drop}
+use Rattle.std.proofs.Common.{ℕ, ◌+◌, ◌-◌, ◌^◌, ◌≤◌, ◌<◌, ◌≡◌, refl, sym, ap, ◌∙◌, Bool, true, false, cond, List, [], arith, le-leb, leb-true, leb-false, w64, Fits, leb, length, take, drop}
+use Rattle.std.proofs.Common.{length-drop, drop-drop}
 use borrow.Author.Tests.{lt-leb}
 use Rattle.laws.proofs.Lists.{no-elements}
 use Rattle.fields.specs.Field.{tag_of, length_of, whole, content, after}

@@ -1,4 +1,6 @@
 // A reading place in a part of the file: a small state by value, which each reading step hands back moved.
+#![tactic(auto)]
+
 ghost use Rattle.std.specs.Prelude.{◌≡◌};
 ghost use Rattle.cursor.specs.Cursor.{head_at, text_at, part_at};
 

@@ -1,20 +1,20 @@
 -- The table of an entry's payouts or debits: what was chosen among the calls are all there are, in walk order, each at its
 -- place in the file.
-use Rattle.std.proofs.Common.{ℕ, zero, suc, ◌+◌, ◌*◌, ◌%◌, ◌≤◌, ◌<◌, ◌≡◌, refl, sym, ap, ◌∙◌, Bool, true, false, cond, List, [], ◌∷◌, ◌++◌, map, arith, zero-add, eqb, length, get_or, set, take, drop, length-set, get_or-set_same, get_or-set_other}
+use Rattle.std.proofs.Common.{ℕ, ◌%◌, ◌≤◌, ◌<◌, ◌≡◌, refl, sym, ap, ◌∙◌, Bool, true, false, cond, List, [], ◌∷◌, map, arith, zero-add, eqb, length, get_or, take}
 use lib.ListN.{length-map, get_or-map}
 use lib.Seq.{sets}
 use Rattle.laws.proofs.Tables.{sets-at}
 use Rattle.laws.specs.Lists.{filter}
 use Rattle.laws.proofs.Lists.{Every, every-filter, filter-first}
 use Rattle.tags.specs.Tag.{Call}
-use Rattle.fields.specs.Field.{Field, Placed, nothing, front, tag}
+use Rattle.fields.specs.Field.{Field, Placed, tag}
 use Rattle.fields.specs.Table.{Listed, fields_at}
 use Rattle.fields.proofs.Tables.{listed-front}
 use Rattle.fields.proofs.Inside.{Stands}
-use Rattle.walking.specs.Walking.{body_exprs, without_places, exprs, is_debit, is_payout, debits, payouts}
+use Rattle.walking.specs.Walking.{body_exprs, without_places, is_debit, is_payout, debits, payouts}
 use Rattle.walking.specs.Table.{placed_at, of_tag, places_of}
 use Rattle.walking.proofs.Callers.{body-places, body-stands, body-anywhere, read_back}
-use Rattle.walking.proofs.Calls.{is_call, payout-call, debit-call}
+use Rattle.walking.proofs.Calls.{is_call}
 use Rattle.entries.specs.Calls.{passes_at, places_where, body_where}
 use Rattle.entries.specs.Entered.{nowhere, CallsOf}
 

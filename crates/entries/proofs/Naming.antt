@@ -1,6 +1,7 @@
 -- The asset parameters of an entry, one after the other: whoever lists the places of those that are left has listed all. Each
 -- stands in the file at its place, so that its name is read there.
-use Rattle.std.proofs.Common.{ℕ, ◌+◌, ◌-◌, ◌^◌, ◌≤◌, ◌<◌, ◌≡◌, refl, sym, ap, ◌∙◌, Bool, true, false, cond, List, [], ◌∷◌, ◌++◌, map, append_assoc, arith, w64, Fits, length, get_or, take, drop, length-take, length-drop, take_at, length-take-le}
+use Rattle.std.proofs.Common.{ℕ, ◌+◌, ◌-◌, ◌^◌, ◌≤◌, ◌<◌, ◌≡◌, refl, sym, ap, ◌∙◌, Bool, true, false, cond, List, [], ◌∷◌, ◌++◌, map, append_assoc, arith, w64, Fits, length, get_or, take}
+use Rattle.std.proofs.Common.{drop, length-take, length-drop, take_at, length-take-le}
 use mathlib.Core.List.{flat_map}
 use lib.ListN.{length-map, get_or-append}
 use lib.Seq.{sets-eq, length-sets}
@@ -110,7 +111,8 @@ names-placed file [] h = refl
 names-placed file (p ∷ ps) h = go (is_asset_parameter p.this) (names-placed file ps h.1)
   where
     go : (k : Bool) → map (name_at file) (flat_map asset_place ps) ≡ map name_of (filter is_asset_parameter (map (λ q. q.this) ps)) →
-        map (name_at file) (cond k (p.place ∷ []) [] ++ flat_map asset_place ps) ≡ map name_of (cond k (p.this ∷ filter is_asset_parameter (map (λ q. q.this) ps)) (filter is_asset_parameter (map (λ q. q.this) ps)))
+        map (name_at file) (cond k (p.place ∷ []) [] ++ flat_map asset_place ps)
+        ≡ map name_of (cond k (p.this ∷ filter is_asset_parameter (map (λ q. q.this) ps)) (filter is_asset_parameter (map (λ q. q.this) ps)))
     go true e = rw (h.0, e)
     go false e = e
 

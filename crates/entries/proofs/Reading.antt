@@ -1,5 +1,6 @@
 -- What is listed among the calls of an entry are its payouts and its debits, and behind these stand its asset parameters.
-use Rattle.std.proofs.Common.{ℕ, zero, suc, ◌+◌, ◌-◌, ◌*◌, ◌%◌, ◌≤◌, ◌<◌, ◌≡◌, refl, sym, ap, ◌∙◌, Bool, true, false, List, [], ◌∷◌, map, arith, leb-true, length, get_or, take, drop, replicate, length-drop, length-take, length-take-le, get_or-take}
+use Rattle.std.proofs.Common.{ℕ, ◌+◌, ◌*◌, ◌%◌, ◌≤◌, ◌<◌, ◌≡◌, refl, sym, ap, ◌∙◌, Bool, true, false, List, arith, leb-true, length, get_or, take, drop, replicate, length-drop, length-take}
+use Rattle.std.proofs.Common.{length-take-le, get_or-take}
 use lib.ListN.{length-map, length-replicate}
 use lib.Seq.{length-sets}
 use Rattle.laws.proofs.Lists.{filter-few, map_at}
@@ -10,7 +11,7 @@ use Rattle.fields.specs.Table.{Listed, fields_at}
 use Rattle.fields.proofs.Reading.{front-none}
 use Rattle.fields.proofs.Places.{front-size}
 use Rattle.fields.proofs.Tables.{listed-front}
-use Rattle.walking.specs.Walking.{body_exprs, is_payout, is_debit, asset_params, debits, payouts}
+use Rattle.walking.specs.Walking.{body_exprs, is_payout, is_debit, asset_params}
 use Rattle.walking.specs.Table.{placed_at, places_of}
 use Rattle.walking.proofs.Callers.{body-few}
 use Rattle.walking.proofs.Calls.{payout-call, debit-call}

@@ -1,6 +1,6 @@
 -- What an entry's value holds of the entry at its place: counts, and the places of its payouts and backings as far as there is
 -- room for them.
-use Rattle.std.specs.Prelude.{ℕ, ◌+◌, ◌-◌, ◌*◌, ◌≤◌, ◌<◌, ◌≡◌, List, [], map, length, get_or, take, drop}
+use Rattle.std.specs.Prelude.{ℕ, ◌+◌, ◌-◌, ◌*◌, ◌≤◌, ◌<◌, ◌≡◌, List, [], length, get_or, take, drop}
 use Rattle.tags.specs.Tag.{Call}
 use Rattle.fields.specs.Field.{Field, Placed, front, nothing}
 use Rattle.fields.specs.Table.{fields_at}

@@ -8,7 +8,6 @@ use super::calls::{list_debits, list_parameters, list_payouts};
 use tags::CALL;
 use walking::walk::list_body;
 
-#[derive(Drop)]
 #[derive(Clone, Copy)]
 pub struct Entry {
     pub place: usize,

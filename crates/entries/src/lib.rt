@@ -1,3 +1,5 @@
 // An entry as a value.
+#![tactic(auto)]
+
 pub mod calls;
 pub mod entry;

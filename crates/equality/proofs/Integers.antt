@@ -1,6 +1,7 @@
 -- Two texts without underscores, gone through at once: an underscore on either side changes nothing, and a pair of equal
 -- bytes leaves the rest to decide.
-use Rattle.std.proofs.Common.{◌≡◌, refl, sym, ◌∙◌, Bool, true, false, cond, not, ◌&&◌, List, [], ◌∷◌, ℕ, ◌+◌, ◌<◌, eq-eqb, ne_eqb, ltb-true, ltb-false, eqb, ltb, length, get_or, drop, drop_of_length-le}
+use Rattle.std.proofs.Common.{◌≡◌, refl, sym, ◌∙◌, Bool, true, false, cond, not, ◌&&◌, List, [], ◌∷◌, ℕ, ◌+◌, ◌<◌, eq-eqb, ne_eqb, ltb-true, ltb-false, eqb, ltb, length, get_or, drop}
+use Rattle.std.proofs.Common.{drop_of_length-le}
 use mathlib.Core.Bool.{and-true}
 use Rattle.laws.specs.Lists.{all, filter}
 use Rattle.laws.specs.Texts.{same_bytes}

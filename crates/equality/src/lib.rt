@@ -1,5 +1,7 @@
 // SPDX-License-Identifier: Apache-2.0 OR MIT
 // Equality of expressions. An expression is the part of the file that starts with it.
+#![tactic(auto)]
+
 ghost use Rattle.std.specs.Prelude.{◌≡◌, drop};
 ghost use Rattle.laws.specs.Lists.{all};
 ghost use Rattle.laws.specs.Texts.{same_bytes};

@@ -1,5 +1,5 @@
 -- A token is told of where the file is short enough, and of a longer one none is.
-use Rattle.std.proofs.Common.{ℕ, ◌<◌, ◌≤◌, ◌≡◌, sym, ◌∙◌, Bool, true, false, List, le-leb, length}
+use Rattle.std.proofs.Common.{ℕ, ◌<◌, ◌≤◌, ◌≡◌, Bool, false, List, le-leb, length}
 use borrow.Author.Tests.{lt-leb}
 use Rattle.laws.specs.Texts.{same_bytes}
 use Rattle.export.specs.Token.{is_token_of}

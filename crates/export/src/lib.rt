@@ -1,4 +1,6 @@
 // The functions that C and Rust call: numbers and slices only. A slice is a pointer and then a length.
+#![tactic(auto)]
+
 ghost use Rattle.std.specs.Prelude.{◌≡◌, length};
 ghost use Rattle.fields.specs.Field.{fields, front};
 ghost use Rattle.questions.specs.Questions.{ask_file};

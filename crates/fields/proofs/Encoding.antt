@@ -1,5 +1,6 @@
 -- The tree's bytes are the file's bytes again: nothing is lost in reading.
-use Rattle.std.proofs.Common.{ℕ, ◌+◌, ◌*◌, ◌/◌, ◌%◌, ◌≤◌, ◌<◌, ◌≡◌, refl, sym, ◌∙◌, Bool, true, false, cond, List, [], ◌∷◌, append-nil, arith, zero-add, add-zero, leb-true, leb-false, leb, length, get_or, take, drop, length-take, take-append-drop, get_or-take, get_or-drop, drop-drop, drop-cons}
+use Rattle.std.proofs.Common.{ℕ, ◌+◌, ◌*◌, ◌/◌, ◌%◌, ◌≤◌, ◌<◌, ◌≡◌, refl, sym, ◌∙◌, Bool, true, false, cond, List, [], ◌∷◌, append-nil, arith, zero-add, add-zero, leb-true, leb-false, leb}
+use Rattle.std.proofs.Common.{length, get_or, take, drop, length-take, take-append-drop, get_or-take, get_or-drop, drop-drop, drop-cons}
 use lib.ListN.{get_or-eq_default}
 use Rattle.tags.specs.Tag.{composite}
 use Rattle.fields.specs.Field.{fields, tag_of, length_of, whole, content, after, front, sizes, encode, encodes}

@@ -1,6 +1,7 @@
 -- A part of the file that starts anywhere reads as the field that stands there: fields inside a field's content are
 -- the fields of the file at their places.
-use Rattle.std.proofs.Common.{ℕ, ◌+◌, ◌-◌, ◌≤◌, min, ◌≡◌, refl, sym, ap, ◌∙◌, true, List, arith, leb-true, le-leb, length, take, drop, length-take, length-drop, take-append-drop, get_or-take, drop-drop}
+use Rattle.std.proofs.Common.{ℕ, ◌+◌, ◌-◌, ◌≤◌, min, ◌≡◌, refl, sym, ap, ◌∙◌, true, List, arith, leb-true, le-leb, length, take, drop, length-take, length-drop, take-append-drop}
+use Rattle.std.proofs.Common.{get_or-take, drop-drop}
 use lib.Seq.{take-append-le, drop-append-le}
 use Rattle.laws.proofs.Lists.{Every}
 use Rattle.laws.proofs.Slices.{drop-take}

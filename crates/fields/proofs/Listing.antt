@@ -1,6 +1,7 @@
 -- Listing into a table, down into a field and along a row of fields: what is left is shorter, and whoever lists it has
 -- listed all.
-use Rattle.std.proofs.Common.{ℕ, ◌+◌, ◌-◌, ◌*◌, ◌^◌, ◌≤◌, ◌<◌, ◌≡◌, refl, ◌∙◌, Bool, true, false, not, cond, List, [], ◌∷◌, ◌++◌, arith, leb-true, w64, Fits, length, take, drop, length-take, length-drop}
+use Rattle.std.proofs.Common.{ℕ, ◌+◌, ◌-◌, ◌*◌, ◌^◌, ◌≤◌, ◌<◌, ◌≡◌, refl, ◌∙◌, Bool, true, false, not, cond, List, [], ◌∷◌, ◌++◌, arith, leb-true, w64, Fits, length, take, drop, length-take}
+use Rattle.std.proofs.Common.{length-drop}
 use borrow.Author.Tests.{not-false}
 use Rattle.laws.proofs.Truths.{chosen}
 use Rattle.fields.specs.Field.{Field, Fields, fields, length_of, whole, after, front, tag, parts, size, sizes}

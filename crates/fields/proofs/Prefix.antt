@@ -1,5 +1,6 @@
 -- The fields of the first bytes of a file: cut behind a field, they are the first fields of the file.
-use Rattle.std.proofs.Common.{ℕ, ◌+◌, ◌≤◌, ◌≡◌, refl, sym, ap, ap₂, ◌∙◌, true, false, cond, List, [], ◌∷◌, ◌++◌, arith, leb-true, le-leb, length, take, drop, length-take, drop_of_length-le, take-add, get_or-take}
+use Rattle.std.proofs.Common.{ℕ, ◌+◌, ◌≤◌, ◌≡◌, refl, sym, ap, ap₂, ◌∙◌, true, false, cond, List, [], ◌∷◌, ◌++◌, arith, leb-true, le-leb, length, take, drop, length-take, drop_of_length-le}
+use Rattle.std.proofs.Common.{take-add, get_or-take}
 use lib.Seq.{take-append_seam, drop-append-le}
 use Rattle.laws.specs.Lists.{filter}
 use Rattle.laws.proofs.Lists.{filter-append}

@@ -1,5 +1,6 @@
 -- Reading unfolds by one field, and goes on with fewer bytes: more steps than there are bytes change nothing.
-use Rattle.std.proofs.Common.{ℕ, zero, suc, ◌+◌, ◌*◌, ◌≤◌, ◌<◌, ◌≡◌, refl, ap₂, sym, ◌∙◌, List, [], Bool, true, false, cond, arith, leb-true, leb-false, length, length-take, length-drop, drop_of_length-le}
+use Rattle.std.proofs.Common.{ℕ, zero, suc, ◌+◌, ◌*◌, ◌≤◌, ◌<◌, ◌≡◌, refl, ap₂, sym, ◌∙◌, List, [], Bool, true, false, cond, arith, leb-true, leb-false, length, length-take, length-drop}
+use Rattle.std.proofs.Common.{drop_of_length-le}
 use borrow.Author.Tests.{lt-leb}
 use Rattle.fields.specs.Field.{Field, Fields, fields, fields_to, field_with, tag_of, length_of, whole, content, after, front, nth, nothing}
 use Rattle.fields.specs.Field.Field.{field}

@@ -1,5 +1,6 @@
 -- Fields in a row, and the first of them whose tag is in a range: the rest of the row is behind it.
-use Rattle.std.proofs.Common.{ℕ, zero, suc, ◌+◌, ◌-◌, ◌≤◌, ◌<◌, ◌≡◌, refl, sym, ap, ◌∙◌, Bool, true, false, cond, List, [], ◌∷◌, map, arith, add-zero, add-suc, leb-true, length, get_or, drop, length-drop, drop-drop, get_or-drop}
+use Rattle.std.proofs.Common.{ℕ, zero, suc, ◌+◌, ◌-◌, ◌≤◌, ◌<◌, ◌≡◌, refl, sym, ap, ◌∙◌, Bool, true, false, cond, List, [], ◌∷◌, map, arith, add-zero, add-suc, leb-true, length, get_or}
+use Rattle.std.proofs.Common.{drop, length-drop, drop-drop, get_or-drop}
 use lib.Seq.{drop-length}
 use Rattle.laws.specs.Lists.{filter}
 use Rattle.laws.proofs.Slices.{drop-one}

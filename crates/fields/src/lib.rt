@@ -1,4 +1,6 @@
 // The model file as fields: a one-byte tag, a two-byte length (most significant byte first), that many content bytes.
+#![tactic(auto)]
+
 pub mod bytes;
 pub mod front;
 pub mod table;

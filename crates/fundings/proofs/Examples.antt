@@ -8,7 +8,8 @@ use Rattle.tags.specs.Tag.{Entry, Parameter, Limits, Guard, ExpressionStatement,
 use Rattle.fields.specs.Field.{fields, fields_to, nth, row, fields_from, size, sizes, placed, placed_from, place_of}
 use Rattle.fields.proofs.Writing.{write, name, type_name, identifier}
 use Rattle.model.specs.Model.{entries, params}
-use Rattle.walking.specs.Walking.{peel, peel_first, peel_place, peel_first_place, walk, walk_parts, stmt_exprs, body_exprs, exprs, ident, method, receiver, asset_amount_backer, is_asset_parameter, asset_params}
+use Rattle.walking.specs.Walking.{peel, peel_first, peel_place, peel_first_place, walk, walk_parts, stmt_exprs, body_exprs, exprs, ident, method, receiver, asset_amount_backer}
+use Rattle.walking.specs.Walking.{is_asset_parameter, asset_params}
 use Rattle.conditions.specs.Conditions.{split_and, split_each, split_first, negated, negated_each, negated_first, conditions_of, required_conditions, opposite, operator}
 use Rattle.tokens.specs.Tokens.{single, beside_in_asset, token_named, tokens_named, is_inflow, is_credit, is_funding}
 use Rattle.tokens.specs.Numbers.{token_of, joined, joined_all, condition_number, tokens_number}
@@ -53,7 +54,10 @@ abbrev credits : String → List ℕ → List ℕ
 credits how value = write ExpressionStatement (call "m" how (x ++ value))
 
 funded : List (List ℕ) → List (List ℕ)
-unfolding any all filter same_bytes known fields fields_to nth composite size sizes placed placed_from row fields_from flat_map is_expression is_statement is_wrapper entries params peel peel_first walk walk_parts stmt_exprs body_exprs exprs ident method receiver asset_amount_backer is_asset_parameter asset_params split_and split_each split_first negated negated_each negated_first conditions_of required_conditions opposite operator single beside_in_asset token_named tokens_named is_inflow is_credit is_funding funds ledger_funding_tokens funding_token
+unfolding any all filter same_bytes known fields fields_to nth composite size sizes placed placed_from row fields_from flat_map is_expression is_statement is_wrapper entries params peel
+    peel_first walk walk_parts stmt_exprs body_exprs exprs ident method receiver asset_amount_backer is_asset_parameter asset_params split_and split_each split_first negated
+    negated_each negated_first conditions_of required_conditions opposite operator single beside_in_asset token_named tokens_named is_inflow is_credit is_funding funds
+    ledger_funding_tokens funding_token
 funded models = map (λ m. funding_token (fields m) (bytes "m")) models
 
 -- maps that T funds: by credit, set and insert, a wrapped amount, an extra argument, another map's token beside
@@ -77,12 +81,18 @@ funding-none = refl
 
 -- the place of the first of two entries that fund the map
 funding-place : funding_place 100 (fields (entry x ++ (funding "T" (credits "credit" (amount "a")) ++ funding "T" (credits "set" (amount "a"))))) (bytes "m") ≡ 47
-unfolding any filter same_bytes known fields fields_to nth composite size sizes placed placed_from place_of row fields_from flat_map is_expression is_statement is_wrapper entries params peel peel_first peel_place peel_first_place walk walk_parts stmt_exprs body_exprs exprs ident method receiver asset_amount_backer is_asset_parameter asset_params split_and split_each split_first negated negated_each negated_first conditions_of required_conditions opposite operator beside_in_asset token_named is_inflow is_credit is_funding funds beside_place found_in found_of first_place funding_place
+unfolding any filter same_bytes known fields fields_to nth composite size sizes placed placed_from place_of row fields_from flat_map is_expression is_statement is_wrapper entries params peel
+    peel_first peel_place peel_first_place walk walk_parts stmt_exprs body_exprs exprs ident method receiver asset_amount_backer is_asset_parameter asset_params split_and split_each
+    split_first negated negated_each negated_first conditions_of required_conditions opposite operator beside_in_asset token_named is_inflow is_credit is_funding funds beside_place
+    found_in found_of first_place funding_place
 funding-place = refl
 
 -- the calls that fund some map, each with its place and what its entry names
 listed : List (List ℕ) → List (List ℕ)
-unfolding any all filter same_bytes known fields fields_to nth composite size sizes placed placed_from row fields_from flat_map is_expression is_statement is_wrapper entries params peel peel_first walk walk_parts stmt_exprs body_exprs ident method receiver asset_amount_backer is_asset_parameter asset_params split_and split_each split_first negated negated_each negated_first conditions_of required_conditions opposite operator beside_in_asset token_named is_inflow is_credit token_of joined joined_all condition_number tokens_number is_funding_call numbers_of fundings_of fundings
+unfolding any all filter same_bytes known fields fields_to nth composite size sizes placed placed_from row fields_from flat_map is_expression is_statement is_wrapper entries params peel
+    peel_first walk walk_parts stmt_exprs body_exprs ident method receiver asset_amount_backer is_asset_parameter asset_params split_and split_each split_first negated negated_each
+    negated_first conditions_of required_conditions opposite operator beside_in_asset token_named is_inflow is_credit token_of joined joined_all condition_number tokens_number
+    is_funding_call numbers_of fundings_of fundings
 listed files = map fundings files
 
 abbrev credits_other : List ℕ

@@ -1,5 +1,6 @@
 -- The calls of a table, one after the other: whoever lists those that are left has listed all.
-use Rattle.std.proofs.Common.{ℕ, ◌+◌, ◌-◌, ◌*◌, ◌%◌, ◌^◌, ◌≤◌, ◌<◌, ◌≡◌, refl, sym, ap, ◌∙◌, Bool, true, false, cond, not, ◌&&◌, ◌||◌, List, [], ◌∷◌, ◌++◌, map, arith, mod-eq_of_lt, leb-true, length, get_or, take, drop, length-drop, drop_of_length-le, length-take-le}
+use Rattle.std.proofs.Common.{ℕ, ◌+◌, ◌-◌, ◌*◌, ◌%◌, ◌^◌, ◌≤◌, ◌<◌, ◌≡◌, refl, sym, ap, ◌∙◌, Bool, true, false, cond, not, ◌&&◌, ◌||◌, List, [], ◌∷◌, ◌++◌, map, arith, mod-eq_of_lt}
+use Rattle.std.proofs.Common.{leb-true, length, get_or, take, drop, length-drop, drop_of_length-le, length-take-le}
 use mathlib.Core.List.{flat_map}
 use borrow.Author.Tests.{not-true, not-false}
 use lib.Seq.{take-length, length-sets}

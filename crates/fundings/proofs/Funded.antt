@@ -10,7 +10,7 @@ use Rattle.fields.specs.Field.{Field, length_of, whole, front, size, sizes}
 use Rattle.fields.proofs.Reading.{front-none}
 use Rattle.fields.proofs.Places.{front-size}
 use Rattle.fields.proofs.Tables.{listed-front}
-use Rattle.walking.specs.Walking.{method, receiver, exprs, body_exprs, peel}
+use Rattle.walking.specs.Walking.{method, exprs, body_exprs}
 use Rattle.walking.specs.Table.{most_fields, placed_at, places_of}
 use Rattle.walking.proofs.Calls.{is_call}
 use Rattle.walking.proofs.Callers.{body-read, body-few}

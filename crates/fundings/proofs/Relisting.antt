@@ -1,5 +1,6 @@
 -- The calls that fund a map are listed behind what is remembered of state fields, which stays as it is.
-use Rattle.std.proofs.Common.{ℕ, ◌+◌, ◌-◌, ◌≤◌, ◌<◌, ◌≡◌, refl, sym, ◌∙◌, Bool, true, false, cond, List, [], ◌++◌, append-nil, arith, ltb-true, ltb, length, get_or, take, drop, set, length-append, length-drop, length-set, drop_of_length-le, get_or-take, get_or-set_same, get_or-set_other, drop-set-lt, drop_at, length-take-le}
+use Rattle.std.proofs.Common.{ℕ, ◌+◌, ◌-◌, ◌≤◌, ◌<◌, ◌≡◌, refl, sym, ◌∙◌, Bool, true, false, List, ◌++◌, append-nil, arith, ltb-true, ltb, length, get_or, take, drop, set, length-append}
+use Rattle.std.proofs.Common.{length-drop, length-set, drop_of_length-le, get_or-take, get_or-set_same, get_or-set_other, drop-set-lt, drop_at, length-take-le}
 use lib.ListN.{get_or-append}
 use lib.Seq.{length-sets}
 use Rattle.laws.proofs.Slices.{drop-rest}

@@ -1,5 +1,6 @@
 -- Going through the listed calls joins what the entries with a call of the map name: a second call of an entry adds nothing.
-use Rattle.std.proofs.Common.{ℕ, ◌+◌, ◌-◌, ◌≤◌, ◌<◌, ◌≡◌, refl, sym, ap, ◌∙◌, Bool, true, false, cond, not, ◌&&◌, ◌||◌, List, [], ◌∷◌, ◌++◌, map, arith, w64, Fits, length, get_or, take, drop, length-drop}
+use Rattle.std.proofs.Common.{ℕ, ◌+◌, ◌-◌, ◌≤◌, ◌<◌, ◌≡◌, refl, sym, ap, ◌∙◌, Bool, true, false, cond, not, ◌&&◌, ◌||◌, List, [], ◌∷◌, ◌++◌, map, arith, w64, Fits, length, get_or, take}
+use Rattle.std.proofs.Common.{drop, length-drop}
 use mathlib.Core.List.{flat_map}
 use borrow.Author.Tests.{not-true, not-false}
 use Rattle.laws.proofs.Slices.{drop-step}

@@ -1,4 +1,6 @@
 // The tokens that fund a map, and what is the same for all entries of a file.
+#![tactic(auto)]
+
 pub mod facts;
 pub mod funding;
 pub mod ledger;

@@ -1,4 +1,6 @@
 // Which tags may stand where, and which parts are needed: the rows of the grammar.
+#![tactic(auto)]
+
 ghost use Rattle.std.specs.Prelude.{◌≡◌, Bool, [], ◌∷◌, ◌<◌};
 ghost use Rattle.tags.specs.Tag.{is_expression, is_statement};
 ghost use Rattle.grammar.specs.Grammar.{in_class, takes, slots_of, advance, complete};
@@ -11,7 +13,6 @@ use tags::{
 
 // The slots that are left for the parts of a field, the next one first; 0 is none. A slot is a class of tags, with 16 more
 // for at most one part and 32 more for any count.
-#[derive(Drop)]
 #[derive(Clone, Copy)]
 pub struct Slots {
     pub first: u8,

@@ -1,6 +1,7 @@
 -- The payouts whose amount contains what comes in: those before i are gone through, and read back they ask for the amounts of the
 -- definition.
-use Rattle.std.proofs.Common.{ℕ, suc, ◌+◌, ◌≤◌, ◌<◌, ◌≡◌, refl, sym, ap, ◌∙◌, Bool, true, false, cond, List, [], ◌∷◌, ◌++◌, map, arith, length, get_or, take, drop, length-take, take-suc, take_all, length-take-le}
+use Rattle.std.proofs.Common.{ℕ, suc, ◌+◌, ◌≤◌, ◌<◌, ◌≡◌, refl, sym, ap, ◌∙◌, Bool, true, false, cond, List, [], ◌∷◌, ◌++◌, map, arith, length, get_or, take, drop, length-take, take-suc}
+use Rattle.std.proofs.Common.{take_all, length-take-le}
 use lib.Seq.{length-sets}
 use Rattle.laws.proofs.Lists.{filter-append}
 use Rattle.laws.specs.Lists.{filter}

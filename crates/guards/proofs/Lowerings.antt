@@ -1,6 +1,7 @@
 -- A statement that lowers a field by an amount has the field as its target, so where the amount is asked for, it is one of the
 -- lowerings. Each takes nine bytes at least, so that a table with a number for each three bytes of the file has room for all.
-use Rattle.std.proofs.Common.{ℕ, ◌+◌, ◌*◌, ◌%◌, ◌≤◌, ◌<◌, ◌≡◌, refl, sym, ◌∙◌, Bool, true, false, cond, not, ◌&&◌, List, [], ◌∷◌, ◌++◌, map, arith, mod-eq_of_lt, leb-true, le-leb, eqb, leb, length, take, drop, length-append, length-drop, length-take-le}
+use Rattle.std.proofs.Common.{ℕ, ◌+◌, ◌*◌, ◌%◌, ◌≤◌, ◌<◌, ◌≡◌, refl, sym, ◌∙◌, Bool, true, false, cond, not, ◌&&◌, List, [], ◌∷◌, ◌++◌, map, arith, mod-eq_of_lt, leb-true, le-leb, eqb, leb}
+use Rattle.std.proofs.Common.{length, take, drop, length-append, length-drop, length-take-le}
 use mathlib.Core.Bool.{and-false}
 use mathlib.Core.List.{flat_map}
 use lib.Seq.{length-sets}

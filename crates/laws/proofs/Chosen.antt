@@ -1,6 +1,7 @@
 -- The elements whose numbers are marked: the first of them that passes a test is found by its number, and to clear its mark is
 -- to take it out.
-use Rattle.std.proofs.Common.{ℕ, zero, suc, ◌≤◌, ◌<◌, ◌≡◌, refl, sym, ap, ◌∙◌, Bool, true, false, cond, not, ◌&&◌, ◌||◌, List, [], ◌∷◌, arith, ltb-true, ltb-false, ltb, length, get_or, set, get_or-set_same}
+use Rattle.std.proofs.Common.{ℕ, zero, suc, ◌≤◌, ◌<◌, ◌≡◌, refl, sym, ap, ◌∙◌, Bool, true, false, cond, not, ◌&&◌, ◌||◌, List, [], ◌∷◌, arith, ltb-true, ltb-false, ltb, length, get_or, set}
+use Rattle.std.proofs.Common.{get_or-set_same}
 use mathlib.Core.Option.{none, some}
 use lib.ListN.{get_or-eq_default}
 use lib.Seq.{set_out}

@@ -1,5 +1,6 @@
 -- Laws of a part of a list, also where it is read past its end: in the form in which the readers ask them, and cut twice.
-use Rattle.std.proofs.Common.{◌≡◌, refl, sym, ap, ◌∙◌, Bool, true, false, List, [], ◌∷◌, ◌++◌, ℕ, zero, suc, ◌+◌, ◌-◌, ◌≤◌, ◌<◌, arith, le_of_lt, add-one, leb-true, leb-false, leb, length, get_or, take, drop, length-drop, drop_of_length-le, take_all, length-take-le, drop-cons, drop-drop, get_or-take, get_or-append-add}
+use Rattle.std.proofs.Common.{◌≡◌, refl, sym, ap, ◌∙◌, Bool, true, false, List, [], ◌∷◌, ◌++◌, ℕ, zero, suc, ◌+◌, ◌-◌, ◌≤◌, ◌<◌, arith, le_of_lt, add-one, leb-true, leb-false, leb, length}
+use Rattle.std.proofs.Common.{get_or, take, drop, length-drop, drop_of_length-le, take_all, length-take-le, drop-cons, drop-drop, get_or-take, get_or-append-add}
 use native.Mathlib.Nat.{sub-zero, zero-sub, suc-sub-suc}
 use lib.ListN.{get_or-eq_default}
 use lib.Seq.{take-nil, drop-length}

@@ -1,5 +1,6 @@
 -- Numbers that are written into a table one after the other: what is written first and what is written then is written.
-use Rattle.std.proofs.Common.{ℕ, zero, suc, ◌+◌, ◌≤◌, ◌<◌, ◌≡◌, refl, ap, ◌∙◌, List, [], ◌∷◌, ◌++◌, arith, add-zero, suc-add, add-suc, length, get_or, set, replicate, length-set, get_or-set_same, get_or-set_other}
+use Rattle.std.proofs.Common.{ℕ, zero, suc, ◌+◌, ◌≤◌, ◌<◌, ◌≡◌, refl, ap, ◌∙◌, List, [], ◌∷◌, ◌++◌, arith, add-zero, suc-add, add-suc, length, get_or, set, replicate, length-set}
+use Rattle.std.proofs.Common.{get_or-set_same, get_or-set_other}
 use lib.Seq.{sets, set_out}
 
 pub sets-append : (ks js t : List ℕ) (n : ℕ) → sets (sets t n ks) (n + length ks) js ≡ sets t n (ks ++ js)

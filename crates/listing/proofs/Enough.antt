@@ -1,5 +1,6 @@
 -- 65,536 bytes hold every listing: at most 64 entries with at most 64 payouts each, and the numbers are short.
-use Rattle.std.proofs.Common.{ℕ, suc, ◌+◌, ◌*◌, ◌/◌, ◌≤◌, ◌<◌, ◌≡◌, refl, Bool, true, false, List, [], ◌∷◌, ◌++◌, flat_map, arith, ltb-true, ltb-false, ltb, length, get_or, length-append}
+use Rattle.std.proofs.Common.{ℕ, suc, ◌+◌, ◌*◌, ◌/◌, ◌≤◌, ◌<◌, ◌≡◌, refl, Bool, true, false, List, [], ◌∷◌, ◌++◌, arith, ltb-true, ltb-false, ltb, length, get_or, length-append}
+use mathlib.Core.List.{flat_map}
 use Rattle.laws.specs.Texts.{bytes}
 use Rattle.laws.specs.Lists.{numbered}
 use Rattle.fields.specs.Field.{Field, Fields, fields}

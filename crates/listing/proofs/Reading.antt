@@ -1,5 +1,6 @@
 -- The lines of a record go by what it is; those of the records from the n-th on are what is left to write.
-use Rattle.std.proofs.Common.{ℕ, suc, ◌+◌, ◌-◌, ◌*◌, ◌≤◌, ◌<◌, ◌≡◌, refl, List, [], ◌∷◌, flat_map, arith, eq-eqb, ne_eqb, length, get_or, drop}
+use Rattle.std.proofs.Common.{ℕ, suc, ◌+◌, ◌-◌, ◌*◌, ◌≤◌, ◌<◌, ◌≡◌, refl, List, [], ◌∷◌, arith, eq-eqb, ne_eqb, length, get_or, drop}
+use mathlib.Core.List.{flat_map}
 use Rattle.output.specs.Output.{Written}
 use Rattle.output.proofs.Buffer.{written_none, written-within, same-room, written_then}
 use Rattle.contract.specs.Records.{below}

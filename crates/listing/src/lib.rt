@@ -1,3 +1,5 @@
 // The listing of a file.
+#![tactic(auto)]
+
 pub mod lines;
 pub mod text;

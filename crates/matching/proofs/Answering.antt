@@ -1,5 +1,6 @@
 -- Each step of the answer is the definition's: the search finds what the definition finds, or leaves the rest to the next step.
-use Rattle.std.proofs.Common.{ℕ, ◌-◌, ◌≤◌, ◌<◌, ◌≡◌, refl, sym, ap, ◌∙◌, Bool, true, false, not, List, Option, lt-ltb, le-ltb, eqb, ltb, get_or, drop}
+use Rattle.std.proofs.Common.{ℕ, ◌-◌, ◌≤◌, ◌<◌, ◌≡◌, refl, sym, ap, ◌∙◌, Bool, true, false, not, List, lt-ltb, le-ltb, eqb, ltb, get_or, drop}
+use mathlib.Core.Option.{Option}
 use mathlib.Core.Option.{none, some}
 use borrow.Author.Tests.{not-true, not-false}
 use Rattle.laws.specs.Texts.{same_bytes}
@@ -22,7 +23,6 @@ use Rattle.backings.specs.Marked.{used_at}
 use Rattle.backings.specs.Tables.{token_at, equal_to, bounded_by, first_free, first_taken}
 use Rattle.backings.specs.declared.marks.Marks.{Marks as Coded}
 use Rattle.matching.specs.Matching.{Backing, Marks, equals, bounds, equal_cover, bounding_cover, take_reserve, by_reserve, by_bounding, not_taken, by_equal, answer}
-use Rattle.matching.specs.Matching.Source.{debit, parameter}
 use Rattle.matching.specs.Standing.{marks_of, backings_of, backing_at}
 use Rattle.matching.specs.Prepared.{Ready, payout_at}
 use Rattle.matching.specs.Coded.{coded, coded_cover, at_payout, equal_at, bounding_at, reserve_at, after_cover, after_answer}
@@ -33,7 +33,8 @@ use Rattle.matching.specs.declared.answer.Reason.TheVariants.{SplitWithoutAmount
 use Rattle.matching.specs.declared.answer.Answer.{Answer}
 use Rattle.matching.specs.declared.answer.Answer.TheVariants.{Covered, Rejected}
 use Rattle.matching.specs.declared.answer.Pass.{Pass}
-use Rattle.matching.proofs.Steps.{split_step, answer-step, equal-step, no-equal-step, taken_step, untaken-step, bounding-step, no-bounding-step, reserve-step, no-reserve-step, conflict-step, take_step}
+use Rattle.matching.proofs.Steps.{split_step, answer-step, equal-step, no-equal-step, taken_step, untaken-step, bounding-step, no-bounding-step, reserve-step, no-reserve-step, conflict-step}
+use Rattle.matching.proofs.Steps.{take_step}
 use Rattle.matching.proofs.Found.{free-some, free-none, taken-some}
 
 -- the cover by backing number i

@@ -1,6 +1,7 @@
 -- Backing number i, as the code reads it, is the i-th of the entry's backings: the debits stand in the table in walk order, and
 -- the asset parameters behind them.
-use Rattle.std.proofs.Common.{ℕ, ◌+◌, ◌-◌, ◌<◌, ◌≡◌, refl, sym, ap, ◌∙◌, Bool, true, false, List, [], arith, ltb-true, ltb-false, ltb, length, get_or, take, drop, length-append, get_or-append-add, get_or-take}
+use Rattle.std.proofs.Common.{ℕ, ◌+◌, ◌-◌, ◌<◌, ◌≡◌, refl, sym, ap, ◌∙◌, Bool, true, false, List, [], arith, ltb-true, ltb-false, ltb, length, get_or, take, drop, length-append}
+use Rattle.std.proofs.Common.{get_or-append-add, get_or-take}
 use lib.ListN.{length-map, get_or-append, get_or-map}
 use Rattle.laws.specs.Lists.{numbered}
 use Rattle.laws.proofs.Numbered.{numbered-length, numbered-at}

@@ -2,14 +2,15 @@
 use Rattle.std.proofs.Common.{ℕ, ◌≡◌, refl, List, [], ◌∷◌, ◌++◌, map}
 use Prim.Native.String.{String}
 use mathlib.Core.List.{flat_map}
-use mathlib.Core.Option.{none, some}
 use Rattle.laws.specs.Lists.{any, all, filter, find, remove_first, position, numbered}
 use Rattle.laws.specs.Texts.{same_bytes, known}
-use Rattle.tags.specs.Tag.{State, Entry, Parameter, Guard, AddTo, SubtractFrom, ExpressionStatement, InAsset, Caller, Date, Member, Call, Checked, Wrapping, Eq, Ge, Sub, Mul, Div, composite, is_expression, is_statement, is_wrapper, is_assign}
+use Rattle.tags.specs.Tag.{State, Entry, Parameter, Guard, AddTo, SubtractFrom, ExpressionStatement, InAsset, Caller, Date, Member, Call, Checked, Wrapping, Eq, Ge, Sub, Mul, Div, composite}
+use Rattle.tags.specs.Tag.{is_expression, is_statement, is_wrapper, is_assign}
 use Rattle.fields.specs.Field.{Field, Fields, fields, fields_to, front, nth, row, fields_from, size, sizes, placed, placed_from}
 use Rattle.fields.proofs.Writing.{write, word, name, type_name, integer, identifier}
 use Rattle.model.specs.Model.{entries, params, body, genesis, state_names}
-use Rattle.walking.specs.Walking.{peel, peel_first, walk, walk_parts, stmt_exprs, body_exprs, exprs, guards, ident, method, receiver, is_debit, is_payout, asset_amount_backer, is_asset_parameter, asset_params, debits, payouts}
+use Rattle.walking.specs.Walking.{peel, peel_first, walk, walk_parts, stmt_exprs, body_exprs, exprs, guards, ident, method, receiver, is_debit, is_payout, asset_amount_backer}
+use Rattle.walking.specs.Walking.{is_asset_parameter, asset_params, debits, payouts}
 use Rattle.equality.specs.Equality.{strip, same_text, expr_eq, parts_eq}
 use Rattle.conditions.specs.Conditions.{split_and, split_each, split_first, negated, negated_each, negated_first, conditions_of, required_conditions, opposite, operator}
 use Rattle.bounds.specs.Bounds.{goes_left, wrapping_inside, bounded_by_backing, left_bounded}
@@ -20,7 +21,8 @@ use Rattle.reserve_tokens.specs.ReserveTokens.{credited, guard_token, guard_toke
 use Rattle.guards.specs.Guards.{contains_inflow, guarded_field, guarded_amount, guarded_by, contains_wrapping, lowered_by, lowers}
 use Rattle.guards.specs.Payouts.{payout_token, payout_amount}
 use Rattle.reserves.specs.Reserves.{reserve_covers, reserve_bounding_payout}
-use Rattle.matching.specs.Matching.{Cover, Reason, Marks, debit_backings, parameter_backings, backings, equals, bounds, take_backing, take_reserve, by_reserve, by_bounding, not_taken, by_equal, answer, start}
+use Rattle.matching.specs.Matching.{Cover, Reason, Marks, debit_backings, parameter_backings, backings, equals, bounds, take_backing, take_reserve, by_reserve, by_bounding, not_taken}
+use Rattle.matching.specs.Matching.{by_equal, answer, start}
 use Rattle.matching.specs.Matching.Cover.{equal_debit, equal_parameter, bounding_debit, bounding_parameter, reserve}
 use Rattle.matching.specs.Matching.Reason.{split_without_amount, conflict_at_equal, amount_taken, conflict_at_bounding, no_reserve, reserve_used}
 use Rattle.matching.specs.Matching.Answer.{cover, rejection}
@@ -52,7 +54,14 @@ run model entry s (p ∷ ps) =
 
 -- the last entry of a model, with what stands before it
 answers : List (List ℕ × List ℕ) → List (List (ℕ × ℕ))
-unfolding any all filter find remove_first position numbered same_bytes known fields fields_to nth composite size sizes placed placed_from row fields_from flat_map is_expression is_statement is_wrapper is_assign entries params body genesis state_names peel peel_first walk walk_parts stmt_exprs body_exprs exprs guards ident method receiver is_debit is_payout asset_amount_backer is_asset_parameter asset_params debits payouts strip same_text expr_eq parts_eq split_and split_each split_first negated negated_each negated_first conditions_of required_conditions opposite operator goes_left wrapping_inside bounded_by_backing left_bounded single differ beside_in_asset token_named tokens_named admitted_inflow_token is_inflow is_credit is_funding funds ledger_funding_tokens funding_token contains_inflow guarded_field guarded_amount guarded_by assigns value contains_wrapping sets_from lowered_by lowers is_zero defaults genesis_values starts_at_zero raise raises credited guard_token guard_tokens only debit_token raise_token raise_tokens reserve_token reserve_covers reserve_bounding_payout debit_backings parameter_backings backings payout_token payout_amount equals bounds take_backing take_reserve by_reserve by_bounding not_taken by_equal answer start
+unfolding any all filter find remove_first position numbered same_bytes known fields fields_to nth composite size sizes placed placed_from row fields_from flat_map is_expression is_statement
+    is_wrapper is_assign entries params body genesis state_names peel peel_first walk walk_parts stmt_exprs body_exprs exprs guards ident method receiver is_debit is_payout
+    asset_amount_backer is_asset_parameter asset_params debits payouts strip same_text expr_eq parts_eq split_and split_each split_first negated negated_each negated_first
+    conditions_of required_conditions opposite operator goes_left wrapping_inside bounded_by_backing left_bounded single differ beside_in_asset token_named tokens_named
+    admitted_inflow_token is_inflow is_credit is_funding funds ledger_funding_tokens funding_token contains_inflow guarded_field guarded_amount guarded_by assigns value
+    contains_wrapping sets_from lowered_by lowers is_zero defaults genesis_values starts_at_zero raise raises credited guard_token guard_tokens only debit_token raise_token
+    raise_tokens reserve_token reserve_covers reserve_bounding_payout debit_backings parameter_backings backings payout_token payout_amount equals bounds take_backing take_reserve
+    by_reserve by_bounding not_taken by_equal answer start
 answers ms = map (λ m. run (fields (m.0 ++ m.1)) (front m.1) (start (fields (m.0 ++ m.1)) (front m.1)) (payouts (front m.1))) ms
 
 -- the parts of examples

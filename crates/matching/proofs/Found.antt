@@ -1,5 +1,5 @@
 -- What a search by number finds is what the definition finds among the free backings, or the taken ones.
-use Rattle.std.proofs.Common.{ℕ, ◌+◌, ◌-◌, ◌≤◌, ◌<◌, ◌≡◌, refl, sym, ap, ◌∙◌, Bool, true, false, cond, not, ◌&&◌, ◌||◌, List, [], ◌∷◌, map, Option, arith, ltb-true, ltb-false, ltb, length, get_or}
+use Rattle.std.proofs.Common.{ℕ, ◌≤◌, ◌<◌, ◌≡◌, refl, sym, ap, ◌∙◌, Bool, true, false, List, arith, ltb-true, ltb-false, ltb, length}
 use mathlib.Core.Path.{fun_ext}
 use mathlib.Core.Option.{none, some}
 use Rattle.laws.proofs.Finding.{any_some, any-not-found}
@@ -7,15 +7,13 @@ use Rattle.laws.proofs.Lists.{any-map}
 use Rattle.laws.specs.Numbers.{chosen_by, first_from}
 use Rattle.laws.specs.Lists.{any, find}
 use Rattle.laws.proofs.Chosen.{chosen_at, first-same, chosen-found, chosen-not-found}
-use Rattle.fields.specs.Field.{Field, fields}
-use Rattle.walking.specs.Walking.{peel}
-use Rattle.equality.specs.Equality.{expr_eq}
+use Rattle.fields.specs.Field.{Field}
 use Rattle.entries.specs.declared.entry.Entry.{Entry}
 use Rattle.backings.specs.Marked.{free_at, taken_at}
 use Rattle.entries.specs.Entered.{Entered}
 use Rattle.backings.specs.Tables.{free_in, taken_in, first_free, first_taken}
 use Rattle.backings.specs.declared.marks.Marks.{Marks as Coded}
-use Rattle.matching.specs.Matching.{Backing, Marks}
+use Rattle.matching.specs.Matching.{Backing}
 use Rattle.matching.specs.Standing.{amounts, backings_of, backing_at}
 use Rattle.matching.proofs.Backed.{no_backing, backings-many, backing-is}
 

@@ -1,14 +1,13 @@
 -- The marks that the code hands back stand for those of the definition: a backing that is taken loses its mark and joins the
 -- taken ones, a reserve joins the used ones, and the order of the taken amounts makes no difference to the answer.
-use Rattle.std.proofs.Common.{ℕ, zero, suc, ◌+◌, ◌-◌, ◌≤◌, ◌<◌, ◌≡◌, refl, sym, ap, ◌∙◌, Bool, true, false, cond, not, ◌||◌, List, [], ◌∷◌, map, Option, arith, add-one, lt-ltb, le-ltb, ltb-true, ltb-false, eqb, ltb, length, get_or, set, length-set, get_or-set_same, get_or-set_other}
-use mathlib.Core.Option.{none, some}
-use lib.ListN.{length-replicate, get_or-replicate, get_or-eq_default}
-use lib.Seq.{set_out}
+use Rattle.std.proofs.Common.{ℕ, ◌+◌, ◌≤◌, ◌<◌, ◌≡◌, refl, sym, ap, ◌∙◌, Bool, true, false, ◌||◌, List, [], ◌∷◌, arith, add-one, lt-ltb, length, get_or, set, length-set, get_or-set_same}
+use Rattle.std.proofs.Common.{get_or-set_other}
+use lib.ListN.{length-replicate, get_or-replicate}
 use Rattle.laws.specs.Numbers.{chosen_by, first_from, down_from}
-use Rattle.laws.specs.Lists.{any, find, remove_first}
+use Rattle.laws.specs.Lists.{any, remove_first}
 use Rattle.laws.proofs.Truths.{and_left}
 use Rattle.laws.proofs.Chosen.{chosen_at, Cleared, first-true, remove-chosen, taken-chosen, cleared-mark, down_from-same, all-chosen, none-chosen}
-use Rattle.fields.specs.Field.{Field, Fields, fields}
+use Rattle.fields.specs.Field.{Field, Fields}
 use Rattle.entries.specs.declared.entry.Entry.{Entry}
 use Rattle.backings.specs.Marked.{mark_at, free_at, taken_at, used_at, all_free, without, with_used}
 use Rattle.entries.specs.Entered.{Entered}
@@ -48,7 +47,9 @@ module _ (file : List ℕ) (en : Entry) (t : Entered file en) (m : Coded) (s : M
     inside = omega (arith, backings-many file en t, h)
 
     was_free : free_at m i ≡ true
-    was_free = and_left (free_at m i) (tests (get_or (backings_of file en.place) i no_backing)) (first-true (chosen_at no_backing (free_at m) tests (backings_of file en.place)) (length (backings_of file en.place)) i first inside)
+    was_free =
+        let all : List Backing = backings_of file en.place in
+        and_left (free_at m i) (tests (get_or all i no_backing)) (first-true (chosen_at no_backing (free_at m) tests all) (length all) i first inside)
 
     now-cleared : Cleared (free_at m) (free_at (cleared m i)) i
     now-cleared = cleared-free m i was_free (omega (arith, h, t.few))

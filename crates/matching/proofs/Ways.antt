@@ -1,5 +1,6 @@
 -- The covers that a payout may get: an equal backing, a bounding one or a reserve, each with what had to be so before.
-use Rattle.std.proofs.Common.{ℕ, ◌≡◌, refl, Bool, true, false, List, ◌∷◌, Option, eqb}
+use Rattle.std.proofs.Common.{ℕ, ◌≡◌, refl, Bool, true, false, List, ◌∷◌, eqb}
+use mathlib.Core.Option.{Option}
 use mathlib.Core.Bool.{false≢true}
 use mathlib.Core.Option.{none, some}
 use Rattle.laws.specs.Lists.{any, find, remove_first, position}

@@ -1,11 +1,11 @@
 -- The answer for a payout, with the marks after it: each way that the definition goes, the code's answer is the same with the
 -- marks in any order, and the marks that the code hands back stand for the definition's.
-use Rattle.std.proofs.Common.{ℕ, ◌+◌, ◌-◌, ◌≤◌, ◌<◌, ◌≡◌, refl, sym, ap, ◌∙◌, Bool, true, false, cond, List, Option, arith, ltb-true, ltb-false, eqb, ltb}
+use Rattle.std.proofs.Common.{ℕ, ◌+◌, ◌-◌, ◌≤◌, ◌<◌, ◌≡◌, refl, sym, ap, ◌∙◌, Bool, true, false, List, arith, ltb-true, ltb-false, eqb, ltb}
+use mathlib.Core.Option.{Option}
 use mathlib.Core.Option.{none, some}
 use Rattle.laws.specs.Lists.{any, find, position}
-use Rattle.laws.specs.Numbers.{first_from}
 use Rattle.laws.specs.Texts.{same_bytes}
-use Rattle.fields.specs.Field.{Field, Fields, fields, front}
+use Rattle.fields.specs.Field.{Field, Fields, fields}
 use Rattle.model.specs.Model.{state_names}
 use Rattle.walking.specs.Walking.{peel, present}
 use Rattle.tokens.specs.Tokens.{differ}
@@ -23,13 +23,14 @@ use Rattle.matching.specs.Matching.Reason.{split_without_amount, conflict_at_equ
 use Rattle.matching.specs.Matching.Answer.{cover, rejection}
 use Rattle.matching.specs.Standing.{marks_of, Stands, backings_of, backing_at}
 use Rattle.matching.specs.Prepared.{Ready, payout_at}
-use Rattle.matching.specs.Coded.{cover_of, reason_of, answer_of, coded_cover, coded_reason, coded, after_cover, after_answer, at_payout, equal_at, bounding_at, Answers, AnswersFor}
+use Rattle.matching.specs.Coded.{coded_cover, coded_reason, coded, after_cover, after_answer, at_payout, equal_at, bounding_at, Answers, AnswersFor}
 use Rattle.matching.specs.declared.answer.Cover.TheVariants.{EqualDebit, EqualParameter, BoundingDebit, BoundingParameter, Reserve}
 use Rattle.matching.specs.declared.answer.Answer.{Answer}
 use Rattle.matching.specs.declared.answer.Answer.TheVariants.{Covered, Rejected}
 use Rattle.matching.specs.declared.answer.Answered.{Answered}
 use Rattle.matching.specs.declared.answer.Pass.{Pass}
-use Rattle.matching.proofs.Steps.{split_step, answer-step, equal-step, no-equal-step, taken_step, untaken-step, bounding-step, no-bounding-step, reserve-step, no-reserve-step, conflict-step, take_step, used_step, unused-step}
+use Rattle.matching.proofs.Steps.{split_step, answer-step, equal-step, no-equal-step, taken_step, untaken-step, bounding-step, no-bounding-step, reserve-step, no-reserve-step, conflict-step}
+use Rattle.matching.proofs.Steps.{take_step, used_step, unused-step}
 use Rattle.matching.proofs.Found.{free-some, free-none}
 use Rattle.matching.proofs.Answering.{equal-coded, bounding-coded, equals-amount, bounds-amount}
 use Rattle.matching.proofs.Covering.{cover-back, reason-back}

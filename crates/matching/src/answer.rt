@@ -21,7 +21,6 @@ use reserves::covering::{Reserve, reserve_bounding_payout};
 use walking::shape::is_present;
 
 // A cover is one of five kinds, with an index among debits, asset parameters or state fields.
-#[derive(Drop)]
 #[derive(Clone, Copy)]
 pub enum Cover {
     EqualDebit { index: usize },
@@ -32,7 +31,6 @@ pub enum Cover {
 }
 
 // Why a payout is rejected.
-#[derive(Drop)]
 #[derive(Clone, Copy)]
 pub enum Reason {
     SplitWithoutAmount,
@@ -44,7 +42,6 @@ pub enum Reason {
 }
 
 // The answer for one payout.
-#[derive(Drop)]
 #[derive(Clone, Copy)]
 pub enum Answer {
     Covered { cover: Cover },
@@ -52,7 +49,6 @@ pub enum Answer {
 }
 
 // The pass over the payouts of an entry: the marks, and what is remembered of the token that the entry admits.
-#[derive(Drop)]
 #[derive(Clone, Copy)]
 pub struct Pass {
     pub marks: Marks,

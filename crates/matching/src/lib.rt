@@ -1,2 +1,4 @@
 // Payout by payout, the cover of each.
+#![tactic(auto)]
+
 pub mod answer;

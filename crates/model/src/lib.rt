@@ -1,6 +1,8 @@
 // The model that a file carries: state fields by their names, and all by numbers, counted from 0 in file order. Of the file, an
 // answer is the part from the field on, so its place is the file's length less the answer's; where there is no such field it
 // holds none.
+#![tactic(auto)]
+
 ghost use Rattle.std.specs.Prelude.{◌≡◌, take, drop, get_or};
 ghost use Rattle.laws.specs.Lists.{any};
 ghost use Rattle.laws.specs.Texts.{same_bytes};

@@ -1,5 +1,6 @@
 -- Writing into a buffer: what is written first and what is written then is written, and what has no room stays out.
-use Rattle.std.proofs.Common.{ℕ, ◌+◌, ◌≤◌, ◌<◌, ◌≡◌, refl, sym, ◌∙◌, Bool, true, false, List, [], ◌∷◌, ◌++◌, arith, add-one, leb-true, leb-false, leb, length, get_or, set, take, length-append, take_all, take-suc}
+use Rattle.std.proofs.Common.{ℕ, ◌+◌, ◌≤◌, ◌<◌, ◌≡◌, refl, sym, ◌∙◌, Bool, true, false, List, [], ◌∷◌, ◌++◌, arith, add-one, leb-true, leb-false, leb, length, get_or, set, take}
+use Rattle.std.proofs.Common.{length-append, take_all, take-suc}
 use lib.Seq.{sets, set_out, length-sets}
 use Rattle.laws.proofs.Tables.{sets-append, sets-out}
 use Rattle.output.specs.Output.{Written}

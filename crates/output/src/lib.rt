@@ -1,4 +1,6 @@
 // Bytes written into a lent buffer, one behind the other. What has no room is left out.
+#![tactic(auto)]
+
 ghost use Rattle.std.specs.Prelude.{[], ◌∷◌, ◌≤◌, length};
 ghost use Rattle.output.specs.Output.{Written};
 

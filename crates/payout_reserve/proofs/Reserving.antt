@@ -1,6 +1,6 @@
 -- A payout that is not there asks for no token, so that no state field covers it; one that is there stands at its place in the
 -- table, which has room for all.
-use Rattle.std.proofs.Common.{ℕ, ◌*◌, ◌≤◌, ◌<◌, ◌≡◌, refl, ap, ◌∙◌, true, false, ◌&&◌, List, [], arith, length, get_or, set, replicate, take}
+use Rattle.std.proofs.Common.{ℕ, ◌*◌, ◌≤◌, ◌<◌, ◌≡◌, refl, ap, ◌∙◌, false, ◌&&◌, List, [], arith, length, get_or, set, replicate, take}
 use mathlib.Core.Bool.{and-false}
 use mathlib.Core.List.{flat_map}
 use mathlib.Core.Option.{none}

@@ -1,6 +1,8 @@
 // SPDX-License-Identifier: Apache-2.0 OR MIT
 // The state field that covers a payout by itself, for those who compare it: the verdict asks for it only where no backing
 // decides, and uses it up.
+#![tactic(auto)]
+
 ghost use Rattle.std.specs.Prelude.{◌≡◌, ◌≤◌, ◌<◌, length};
 ghost use Rattle.fields.specs.Field.{fields};
 ghost use Rattle.reserves.specs.Covers.{reserve_of};

@@ -1,5 +1,6 @@
 -- The questions of a field by its tag and content, and of a row of fields one at a time.
-use Rattle.std.proofs.Common.{ℕ, suc, ◌+◌, ◌-◌, ◌*◌, ◌≤◌, ◌<◌, ◌≡◌, refl, sym, ap, ap₂, ◌∙◌, Bool, true, false, cond, not, ◌&&◌, ◌||◌, List, [], ◌∷◌, arith, add-zero, leb-true, leb-false, lt-ltb, le-ltb, ltb-false, leb, ltb, length, take, drop}
+use Rattle.std.proofs.Common.{ℕ, suc, ◌+◌, ◌-◌, ◌*◌, ◌≤◌, ◌<◌, ◌≡◌, refl, sym, ap, ap₂, ◌∙◌, Bool, true, false, cond, not, ◌&&◌, ◌||◌, List, [], ◌∷◌, arith, add-zero, leb-true, leb-false}
+use Rattle.std.proofs.Common.{lt-ltb, le-ltb, ltb-false, leb, ltb, length, take, drop}
 use mathlib.Core.Option.{none, some}
 use Rattle.laws.specs.Lists.{all}
 use Rattle.laws.specs.Texts.{known}

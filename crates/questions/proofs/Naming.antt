@@ -1,5 +1,6 @@
 -- Question 7 along the file: the names that came earlier are those of the bytes before, and the table shows them.
-use Rattle.std.proofs.Common.{ℕ, ◌+◌, ◌-◌, ◌^◌, ◌≤◌, ◌<◌, ◌≡◌, refl, sym, ap, ◌∙◌, Bool, true, false, cond, not, ◌&&◌, List, [], ◌∷◌, ◌++◌, map, append-nil, arith, leb-true, w64, Fits, eqb, length, take, drop, length-drop, drop-drop}
+use Rattle.std.proofs.Common.{ℕ, ◌+◌, ◌-◌, ◌^◌, ◌≤◌, ◌<◌, ◌≡◌, refl, sym, ap, ◌∙◌, Bool, true, false, cond, not, ◌&&◌, List, [], ◌∷◌, ◌++◌, map, append-nil, arith, leb-true, w64, Fits, eqb}
+use Rattle.std.proofs.Common.{length, take, drop, length-drop, drop-drop}
 use mathlib.Core.List.{map-append}
 use Rattle.laws.specs.Lists.{any, filter}
 use Rattle.laws.specs.Texts.{same_bytes}

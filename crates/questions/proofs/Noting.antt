@@ -1,5 +1,6 @@
 -- A number that is noted is shown from then on: its place holds its note, or that several share the place.
-use Rattle.std.proofs.Common.{ℕ, ◌+◌, ◌/◌, ◌%◌, ◌≤◌, ◌<◌, ◌≡◌, refl, sym, Bool, true, false, cond, ◌||◌, List, [], ◌∷◌, ◌++◌, append-nil, arith, mod-lt, eq-eqb, ne_eqb, eqb-true, ltb-true, ltb-false, eqb, ltb, length, get_or, set, length-set, drop-cons, get_or-set_same, get_or-set_other}
+use Rattle.std.proofs.Common.{ℕ, ◌+◌, ◌/◌, ◌%◌, ◌≤◌, ◌<◌, ◌≡◌, refl, sym, Bool, true, false, cond, ◌||◌, List, [], ◌∷◌, ◌++◌, append-nil, arith, mod-lt, eq-eqb, ne_eqb, eqb-true, ltb-true}
+use Rattle.std.proofs.Common.{ltb-false, eqb, ltb, length, get_or, set, length-set, drop-cons, get_or-set_same, get_or-set_other}
 use mathlib.Core.Bool.{or-true, or-false}
 use borrow.Author.Tests.{eqb-false}
 use lib.ListN.{get_or-eq_default}

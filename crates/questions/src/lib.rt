@@ -1,4 +1,6 @@
 // Questions 1 to 8: any bytes, one answer.
+#![tactic(auto)]
+
 pub mod check;
 pub mod content;
 pub mod file;

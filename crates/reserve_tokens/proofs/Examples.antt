@@ -4,11 +4,13 @@ use Prim.Native.String.{String}
 use mathlib.Core.List.{flat_map}
 use Rattle.laws.specs.Lists.{any, all, filter, find}
 use Rattle.laws.specs.Texts.{same_bytes, bytes, known}
-use Rattle.tags.specs.Tag.{State, Entry, Parameter, Limits, Guard, AddTo, SubtractFrom, ExpressionStatement, Caller, InAsset, Member, Call, Checked, And, Eq, Ne, composite, is_assign, is_expression, is_statement, is_wrapper}
+use Rattle.tags.specs.Tag.{State, Entry, Parameter, Limits, Guard, AddTo, SubtractFrom, ExpressionStatement, Caller, InAsset, Member, Call, Checked, And, Eq, Ne, composite, is_assign}
+use Rattle.tags.specs.Tag.{is_expression, is_statement, is_wrapper}
 use Rattle.fields.specs.Field.{fields, fields_to, nth, row, fields_from, size, sizes, placed, placed_from}
 use Rattle.fields.proofs.Writing.{write, name, type_name, integer, identifier}
 use Rattle.model.specs.Model.{genesis, entries, params, body}
-use Rattle.walking.specs.Walking.{peel, peel_first, walk, walk_parts, stmt_exprs, body_exprs, exprs, guards, ident, method, receiver, is_debit, asset_amount_backer, is_asset_parameter, asset_params, debits}
+use Rattle.walking.specs.Walking.{peel, peel_first, walk, walk_parts, stmt_exprs, body_exprs, exprs, guards, ident, method, receiver, is_debit, asset_amount_backer, is_asset_parameter}
+use Rattle.walking.specs.Walking.{asset_params, debits}
 use Rattle.equality.specs.Equality.{expr_eq, parts_eq, strip, same_text}
 use Rattle.conditions.specs.Conditions.{split_and, split_each, split_first, negated, negated_each, negated_first, conditions_of, required_conditions, opposite, operator}
 use Rattle.tokens.specs.Tokens.{single, beside_in_asset, token_named, tokens_named, is_inflow, is_credit, is_funding}
@@ -58,7 +60,11 @@ abbrev funding : String → String → List ℕ
 funding m t = taking (write Limits (holds t) ++ calls m "credit" amount)
 
 held : List (List ℕ) → List (List ℕ)
-unfolding any all filter find same_bytes known fields fields_to nth composite size sizes placed placed_from row fields_from flat_map is_assign is_expression is_statement is_wrapper genesis entries params body peel peel_first walk walk_parts stmt_exprs body_exprs exprs guards ident method receiver is_debit asset_amount_backer is_asset_parameter asset_params debits expr_eq parts_eq strip same_text split_and split_each split_first negated negated_each negated_first conditions_of required_conditions opposite operator single beside_in_asset token_named tokens_named is_inflow is_credit is_funding funds ledger_funding_tokens funding_token assigns value sets_from is_zero defaults genesis_values starts_at_zero raise raises credited guard_token guard_tokens only debit_token raise_token raise_tokens reserve_token
+unfolding any all filter find same_bytes known fields fields_to nth composite size sizes placed placed_from row fields_from flat_map is_assign is_expression is_statement is_wrapper genesis
+    entries params body peel peel_first walk walk_parts stmt_exprs body_exprs exprs guards ident method receiver is_debit asset_amount_backer is_asset_parameter asset_params debits
+    expr_eq parts_eq strip same_text split_and split_each split_first negated negated_each negated_first conditions_of required_conditions opposite operator single beside_in_asset
+    token_named tokens_named is_inflow is_credit is_funding funds ledger_funding_tokens funding_token assigns value sets_from is_zero defaults genesis_values starts_at_zero raise
+    raises credited guard_token guard_tokens only debit_token raise_token raise_tokens reserve_token
 held models = map (λ m. reserve_token (fields m) (bytes "r")) models
 
 -- a raise by a.amount: one guard, a wrapped guard with its sides swapped, another guard beside it, a lowering beside it, twice in

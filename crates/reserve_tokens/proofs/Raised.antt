@@ -17,7 +17,7 @@ use Rattle.tokens.specs.Numbers.{token_of}
 use Rattle.tokens.proofs.Joining.{token-none}
 use Rattle.fundings.specs.FundingTokens.{funding_token}
 use Rattle.raises.specs.Raises.{raises}
-use Rattle.raises.specs.Raising.{is_raise, raised_by, raising}
+use Rattle.raises.specs.Raising.{is_raise, raising}
 use Rattle.raises.proofs.Statements.{raises-chosen}
 use Rattle.reserve_tokens.specs.ReserveTokens.{credited, guard_tokens, only, debit_token, raise_token, raise_tokens}
 use Rattle.reserve_tokens.specs.Reserving.{with_amount, first_of, map_token}

@@ -1,9 +1,9 @@
 -- What the code asks on its way to a state field's token: of the calls at the places of a table, and of the token that was found
 -- so far.
-use Rattle.std.specs.Prelude.{ℕ, ◌<◌, ◌≡◌, Bool, cond, ◌&&◌, ◌||◌, not, List, [], ◌∷◌, map, eqb, ltb, drop}
+use Rattle.std.specs.Prelude.{ℕ, ◌<◌, ◌≡◌, Bool, cond, ◌&&◌, ◌||◌, not, List, [], ◌∷◌, eqb, ltb}
 use Rattle.laws.specs.Texts.{same_bytes, known}
 use Rattle.laws.specs.Lists.{any}
-use Rattle.fields.specs.Field.{Field, Fields, front, part, nothing}
+use Rattle.fields.specs.Field.{Field, Fields, part, nothing}
 use Rattle.walking.specs.Walking.{peel, present, receiver, asset_params}
 use Rattle.equality.specs.Equality.{expr_eq}
 use Rattle.tokens.specs.Tokens.{differ}

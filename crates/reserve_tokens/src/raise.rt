@@ -24,7 +24,6 @@ use walking::shape::{is_present, receiver};
 
 // An entry that raises a state field: its place in the file, the number of the token that its only such guard names, and whether
 // an asset parameter of it has no name.
-#[derive(Drop)]
 #[derive(Clone, Copy)]
 pub struct Raising {
     pub place: usize,
@@ -34,7 +33,6 @@ pub struct Raising {
 
 // What the raises so far agree on: the number of their token, 1 before the first raise and 0 where one bars the field; and the
 // place of the debit whose map was looked up last, which has that token.
-#[derive(Drop)]
 #[derive(Clone, Copy)]
 pub struct Agreed {
     pub number: usize,

@@ -1,6 +1,7 @@
 -- A guard that counts has an expression in it, so the two numbers that are written of it take six bytes of the file, and a
 -- table of one number for each three bytes of a file has room for all.
-use Rattle.std.proofs.Common.{ℕ, ◌+◌, ◌-◌, ◌*◌, ◌^◌, ◌%◌, ◌≤◌, ◌<◌, ◌≡◌, refl, sym, ◌∙◌, Bool, true, false, cond, not, ◌&&◌, List, [], ◌∷◌, map, arith, mod-eq_of_lt, eq-eqb, ne_eqb, leb-true, eqb, length, take, drop, length-append, length-drop}
+use Rattle.std.proofs.Common.{ℕ, ◌+◌, ◌-◌, ◌*◌, ◌%◌, ◌≤◌, ◌<◌, ◌≡◌, refl, ◌∙◌, Bool, true, false, cond, not, ◌&&◌, List, [], ◌∷◌, map, arith, mod-eq_of_lt, ne_eqb, leb-true, eqb, length}
+use Rattle.std.proofs.Common.{take, drop, length-append, length-drop}
 use mathlib.Core.Bool.{and-false}
 use mathlib.Core.List.{flat_map}
 use lib.ListN.{length-map}
@@ -15,7 +16,7 @@ use Rattle.fields.specs.Field.Field.{field}
 use Rattle.fields.specs.Field.Fields.{end, next}
 use Rattle.fields.proofs.Reading.{front-none}
 use Rattle.fields.proofs.Places.{front-size, parts-inside, tree-size, size-least, row-few}
-use Rattle.fields.proofs.Tables.{listed-none, listed_then, listed-front}
+use Rattle.fields.proofs.Tables.{listed-front}
 use Rattle.fields.proofs.Listing.{Row}
 use Rattle.model.specs.Model.{name_of, state_names, body}
 use Rattle.walking.specs.Walking.{peel, peel_first}

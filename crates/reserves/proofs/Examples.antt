@@ -1,15 +1,18 @@
 -- The definitions computed on examples: which guard and which assignment let a state field cover a payout.
-use Rattle.std.proofs.Common.{ℕ, ◌≡◌, refl, List, [], ◌∷◌, ◌++◌, map, Option, length}
+use Rattle.std.proofs.Common.{ℕ, ◌≡◌, refl, List, [], ◌∷◌, ◌++◌, map, length}
+use mathlib.Core.Option.{Option}
 use Prim.Native.String.{String}
 use mathlib.Core.List.{flat_map}
 use mathlib.Core.Option.{none, some}
 use Rattle.laws.specs.Lists.{any, all, filter, find, position}
 use Rattle.laws.specs.Texts.{same_bytes, bytes, known}
-use Rattle.tags.specs.Tag.{State, Entry, Parameter, Guard, Set, AddTo, SubtractFrom, InAsset, Member, Checked, Wrapping, And, Eq, Lt, Gt, Le, Ge, Sub, Mul, composite, is_assign, is_expression, is_statement, is_wrapper}
+use Rattle.tags.specs.Tag.{State, Entry, Parameter, Guard, Set, AddTo, SubtractFrom, InAsset, Member, Checked, Wrapping, And, Eq, Lt, Gt, Le, Ge, Sub, Mul, composite, is_assign}
+use Rattle.tags.specs.Tag.{is_expression, is_statement, is_wrapper}
 use Rattle.fields.specs.Field.{fields, fields_to, front, nth, row, fields_from, size, sizes, placed, placed_from}
 use Rattle.fields.proofs.Writing.{write, name, type_name, integer, identifier}
 use Rattle.model.specs.Model.{state_names, genesis, entries, params, body}
-use Rattle.walking.specs.Walking.{peel, peel_first, walk, walk_parts, stmt_exprs, body_exprs, exprs, guards, ident, method, receiver, is_debit, asset_amount_backer, is_asset_parameter, asset_params, debits}
+use Rattle.walking.specs.Walking.{peel, peel_first, walk, walk_parts, stmt_exprs, body_exprs, exprs, guards, ident, method, receiver, is_debit, asset_amount_backer, is_asset_parameter}
+use Rattle.walking.specs.Walking.{asset_params, debits}
 use Rattle.walking.specs.Table.{placed_at}
 use Rattle.equality.specs.Equality.{expr_eq, parts_eq, strip, same_text}
 use Rattle.tokens.specs.Tokens.{single, beside_in_asset, is_inflow, is_credit}
@@ -69,7 +72,11 @@ abbrev lowered : List ℕ
 lowered = write SubtractFrom (r ++ double)
 
 covering : List ℕ → List ℕ → List (List ℕ) → List (Option (List ℕ))
-unfolding any all filter find same_bytes known fields fields_to nth composite size sizes placed placed_from row fields_from flat_map is_assign is_expression is_statement is_wrapper state_names genesis entries params body peel peel_first walk walk_parts stmt_exprs body_exprs exprs guards ident method receiver is_debit asset_amount_backer is_asset_parameter asset_params debits expr_eq parts_eq strip same_text single beside_in_asset is_inflow is_credit contains_inflow guarded_field guarded_amount guarded_by assigns value contains_wrapping sets_from lowered_by lowers is_zero defaults genesis_values starts_at_zero raise raises credited guard_token guard_tokens only debit_token raise_token raise_tokens reserve_token reserve_covers reserve_bounding_payout
+unfolding any all filter find same_bytes known fields fields_to nth composite size sizes placed placed_from row fields_from flat_map is_assign is_expression is_statement is_wrapper
+    state_names genesis entries params body peel peel_first walk walk_parts stmt_exprs body_exprs exprs guards ident method receiver is_debit asset_amount_backer is_asset_parameter
+    asset_params debits expr_eq parts_eq strip same_text single beside_in_asset is_inflow is_credit contains_inflow guarded_field guarded_amount guarded_by assigns value
+    contains_wrapping sets_from lowered_by lowers is_zero defaults genesis_values starts_at_zero raise raises credited guard_token guard_tokens only debit_token raise_token
+    raise_tokens reserve_token reserve_covers reserve_bounding_payout
 covering amount token es = map (λ e. reserve_bounding_payout (fields (before ++ e)) (front e) (front amount) token) es
 
 -- of double, in T
@@ -153,7 +160,9 @@ first-that-covers = refl
 
 -- of the entry behind `before`, which takes 106 bytes; 24 stand before the entry's first guard, and a guard takes 33
 numbers : List (List ℕ) → List (List ℕ) → List (List ℕ)
-unfolding any filter same_bytes position fields fields_to nth composite size sizes placed row fields_from flat_map is_assign is_expression is_statement is_wrapper state_names body peel peel_first walk walk_parts ident expr_eq parts_eq strip same_text guarded_field guarded_amount assigns value contains_wrapping sets_from lowered_by lowers counts state_index numbers_at candidate_numbers
+unfolding any filter same_bytes position fields fields_to nth composite size sizes placed row fields_from flat_map is_assign is_expression is_statement is_wrapper state_names body peel
+    peel_first walk walk_parts ident expr_eq parts_eq strip same_text guarded_field guarded_amount assigns value contains_wrapping sets_from lowered_by lowers counts state_index
+    numbers_at candidate_numbers
 numbers amounts bodies = map (λ c. candidate_numbers (fields (before ++ taking c)) (map front amounts) (placed_at (before ++ taking c) (length before))) bodies
 
 -- one guard that counts, its place and the number of r; none; two guards, of which the first does not count; asked for behind n

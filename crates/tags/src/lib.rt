@@ -1,4 +1,6 @@
 // The tags of the model file, and the classes of tags. A test by ranges costs no table.
+#![tactic(auto)]
+
 ghost use Rattle.std.specs.Prelude.{◌≡◌};
 ghost use Rattle.tags.specs.Tag.{is_item, is_clause, is_statement, is_assign, is_expression, is_text, is_wrapper, composite};
 

@@ -1,5 +1,6 @@
 -- A number stands for a list of tokens: two such lists together have the number of the two joined.
-use Rattle.std.proofs.Common.{ℕ, ◌+◌, ◌-◌, ◌≤◌, ◌<◌, ◌≡◌, refl, sym, ap, ◌∙◌, Bool, true, false, cond, ◌&&◌, List, [], ◌∷◌, ◌++◌, map, append-nil, append_assoc, arith, eqb-true, eq-eqb, ne_eqb, le-leb, leb-true, leb-false, eqb, leb, length, drop, drop_of_length-le}
+use Rattle.std.proofs.Common.{ℕ, ◌+◌, ◌-◌, ◌≤◌, ◌<◌, ◌≡◌, refl, sym, ap, ◌∙◌, Bool, true, false, cond, ◌&&◌, List, [], ◌∷◌, ◌++◌, map, append-nil, append_assoc, arith, eqb-true, eq-eqb}
+use Rattle.std.proofs.Common.{ne_eqb, le-leb, leb-true, leb-false, eqb, leb, length, drop, drop_of_length-le}
 use mathlib.Core.List.{flat_map}
 use borrow.Author.Tests.{eqb-false, lt-leb}
 use Rattle.laws.specs.Lists.{all}

@@ -1,5 +1,6 @@
 -- An entry's number stands for the tokens that its conditions name: each condition stands in the file, and so does the token.
-use Rattle.std.proofs.Common.{ℕ, ◌+◌, ◌-◌, ◌%◌, ◌≤◌, ◌<◌, ◌≡◌, refl, sym, ◌∙◌, Bool, true, false, cond, List, [], ◌∷◌, ◌++◌, map, arith, le-leb, eqb, length, get_or, take, drop, length-drop, drop_of_length-le, length-take-le, get_or-take, drop-drop}
+use Rattle.std.proofs.Common.{ℕ, ◌+◌, ◌-◌, ◌%◌, ◌≤◌, ◌<◌, ◌≡◌, refl, sym, ◌∙◌, Bool, true, false, cond, List, [], ◌∷◌, ◌++◌, map, arith, le-leb, eqb, length, get_or, take, drop, length-drop}
+use Rattle.std.proofs.Common.{drop_of_length-le, length-take-le, get_or-take, drop-drop}
 use mathlib.Core.List.{flat_map}
 use lib.Seq.{length-sets}
 use Rattle.laws.specs.Lists.{all, filter}

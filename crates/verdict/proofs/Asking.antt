@@ -1,12 +1,11 @@
 -- Questions 9 to 12: the first "no" is the verdict, and where there is none the matching is.
-use Rattle.std.proofs.Common.{ℕ, zero, suc, ◌+◌, ◌-◌, ◌*◌, ◌≤◌, ◌<◌, ◌≡◌, refl, sym, ap, subst, ◌∙◌, Bool, true, false, List, [], ◌∷◌, map, arith, lt-ltb, le-ltb, ltb-true, ltb-false, ltb, length, get_or, take, drop, length-take, length-drop, drop_of_length-le, take_all, get_or-take, get_or-drop, drop-cons}
-use Rattle.laws.specs.Lists.{filter}
+use Rattle.std.proofs.Common.{ℕ, ◌-◌, ◌≤◌, ◌<◌, ◌≡◌, refl, sym, ap, ◌∙◌, Bool, true, false, List, [], ◌∷◌, arith, lt-ltb, le-ltb, ltb-true, ltb-false, ltb, length, get_or, take, drop}
+use Rattle.std.proofs.Common.{length-take, length-drop, take_all, get_or-take, get_or-drop}
 use Rattle.laws.proofs.Lists.{Every, every-filter, every-at}
-use Rattle.tags.specs.Tag.{Entry}
-use Rattle.fields.specs.Field.{Field, Fields, Placed, fields, nothing, whole, front, placed, placed_from}
+use Rattle.fields.specs.Field.{Fields, Placed, fields, nothing, whole, front, placed, placed_from}
 use Rattle.fields.proofs.Inside.{Stands, row-stands}
 use Rattle.model.specs.Model.{entries}
-use Rattle.questions.specs.Questions.{passes, fails, at_most}
+use Rattle.questions.specs.Questions.{at_most}
 use Rattle.model.specs.Shown.{shown}
 use Rattle.walking.specs.Walking.{is_payout}
 use Rattle.walking.specs.Table.{placed_at}

@@ -1,5 +1,5 @@
 -- Questions 9 to 12: the first "no" is the verdict, and where there is none the matching is.
-use Rattle.std.proofs.Common.{ℕ, ◌+◌, ◌-◌, ◌*◌, ◌≤◌, ◌<◌, ◌≡◌, refl, sym, ap, ◌∙◌, List, [], ◌∷◌, arith, le-leb, length, get_or, drop, drop_of_length-le, drop-cons}
+use Rattle.std.proofs.Common.{ℕ, ◌*◌, ◌≤◌, ◌<◌, ◌≡◌, sym, ap, ◌∙◌, List, [], arith, le-leb, length, get_or, drop, drop_of_length-le, drop-cons}
 use borrow.Author.Tests.{lt-leb}
 use lib.ListN.{length-map}
 use Rattle.laws.proofs.Lists.{no-elements}

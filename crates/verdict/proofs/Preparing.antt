@@ -1,5 +1,5 @@
 -- The candidates stand in front of a table that has room for all, and are lent by themselves.
-use Rattle.std.proofs.Common.{ℕ, ◌+◌, ◌*◌, ◌≤◌, ◌<◌, ◌≡◌, refl, sym, ap, ◌∙◌, List, arith, length, get_or, take, drop, take_all, length-take-le}
+use Rattle.std.proofs.Common.{ℕ, ◌*◌, ◌≤◌, ◌≡◌, sym, ap, ◌∙◌, List, arith, length, take, take_all, length-take-le}
 use Rattle.fields.specs.Field.{fields}
 use Rattle.fields.specs.Table.{Listed}
 use Rattle.walking.specs.Table.{placed_at}

@@ -1,5 +1,6 @@
 -- Payout by payout: those before the k-th have their covers, and those that are left decide.
-use Rattle.std.proofs.Common.{ℕ, suc, ◌+◌, ◌-◌, ◌*◌, ◌/◌, ◌%◌, ◌≤◌, ◌<◌, arith, ◌≡◌, refl, sym, ap, ◌∙◌, List, [], ◌∷◌, ◌++◌, append-nil, length, take, drop, replicate, length-append, drop_of_length-le, take_at, drop-cons}
+use Rattle.std.proofs.Common.{ℕ, suc, ◌+◌, ◌-◌, ◌*◌, ◌/◌, ◌%◌, ◌≤◌, ◌<◌, arith, ◌≡◌, refl, sym, ap, ◌∙◌, List, [], ◌∷◌, ◌++◌, append-nil, length, take, drop, replicate, length-append}
+use Rattle.std.proofs.Common.{drop_of_length-le, take_at, drop-cons}
 use lib.ListN.{length-replicate}
 use lib.Seq.{sets, sets-eq, length-sets}
 use Rattle.fields.specs.Field.{Field, Fields, fields, nothing}
@@ -17,7 +18,7 @@ use Rattle.matching.specs.Matching.{Cover, Reason, Marks, answer, start}
 use Rattle.matching.specs.Matching.Answer.{cover, rejection}
 use Rattle.matching.specs.Standing.{backings_of, Stands}
 use Rattle.matching.specs.Prepared.{Prepared, Ready, payout_at}
-use Rattle.matching.specs.Coded.{cover_of, reason_of, coded_reason, answer_of, Answers, AnswersFor}
+use Rattle.matching.specs.Coded.{cover_of, reason_of, answer_of, Answers, AnswersFor}
 use Rattle.matching.specs.declared.answer.Cover.{Cover as CodedCover}
 use Rattle.matching.specs.declared.answer.Reason.{Reason as CodedReason}
 use Rattle.matching.specs.declared.answer.Answer.TheVariants.{Covered, Rejected}

@@ -1,5 +1,5 @@
 -- Writing covers: three bytes for each, and a copy of the first n bytes.
-use Rattle.std.proofs.Common.{ℕ, zero, suc, ◌+◌, ◌*◌, ◌/◌, ◌%◌, ◌≤◌, ◌<◌, ◌≡◌, refl, sym, ap, ◌∙◌, List, [], ◌∷◌, ◌++◌, arith, zero-add, length, get_or, set, take, drop, length-set}
+use Rattle.std.proofs.Common.{ℕ, suc, ◌+◌, ◌*◌, ◌/◌, ◌%◌, ◌≤◌, ◌<◌, ◌≡◌, sym, ap, ◌∙◌, List, ◌++◌, arith, zero-add, length, get_or, set, take, drop, length-set}
 use lib.Seq.{sets, paste, paste-zero, paste-suc, length-paste}
 use Rattle.matching.specs.Matching.{Cover}
 use Rattle.claim.specs.Verdict.{kind, index}

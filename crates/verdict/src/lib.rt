@@ -1,4 +1,6 @@
 // The verdict on an entry, and what is written.
+#![tactic(auto)]
+
 pub mod entry;
 pub mod file;
 pub mod sheet;

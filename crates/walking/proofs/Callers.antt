@@ -1,6 +1,7 @@
 -- What a caller of the walk knows: the places in its table are those of the expressions, each stands in the file at its
 -- place, and the fields do not depend on where the walk started.
-use Rattle.std.proofs.Common.{ℕ, suc, ◌+◌, ◌*◌, ◌%◌, ◌≤◌, ◌<◌, ◌≡◌, refl, ap, ◌∙◌, Bool, true, false, cond, ◌||◌, List, [], ◌∷◌, ◌++◌, map, arith, mod-eq_of_lt, leb-true, le-leb, eqb, leb, length, drop, length-drop}
+use Rattle.std.proofs.Common.{ℕ, suc, ◌+◌, ◌*◌, ◌%◌, ◌≤◌, ◌<◌, ◌≡◌, refl, ap, ◌∙◌, Bool, true, false, cond, ◌||◌, List, [], ◌∷◌, ◌++◌, map, arith, mod-eq_of_lt, leb-true, le-leb, eqb, leb}
+use Rattle.std.proofs.Common.{length, drop, length-drop}
 use mathlib.Core.List.{flat_map, map-append}
 use Rattle.laws.specs.Lists.{any, filter}
 use Rattle.laws.proofs.Lists.{Every, every_append, every-filter, every-flat_map}

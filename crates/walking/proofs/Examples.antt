@@ -142,5 +142,6 @@ paying =
     ++ write Let (name "x" ++ write Not (write Call (send ++ (m ++ (caller ++ n)))))))
 
 paid : map (λ f. tag (part 0 f)) (debits (front paying) ++ payouts (front paying)) ≡ Member ∷ Identifier ∷ []
-unfolding fields fields_to nth composite size sizes placed flat_map filter same_bytes ident method walk walk_parts stmt_exprs body_exprs exprs is_expression is_statement is_debit is_payout debits payouts paying
+unfolding fields fields_to nth composite size sizes placed flat_map filter same_bytes ident method walk walk_parts stmt_exprs body_exprs exprs is_expression is_statement is_debit is_payout
+    debits payouts paying
 paid = refl

@@ -5,7 +5,7 @@ use borrow.Author.Tests.{not-true, not-false}
 use Rattle.laws.specs.Lists.{filter}
 use Rattle.laws.proofs.Lists.{no-elements}
 use Rattle.tags.specs.Tag.{is_expression, is_statement}
-use Rattle.fields.specs.Field.{Field, fields, front, nth, tag, parts, size, placed}
+use Rattle.fields.specs.Field.{Placed, Field, fields, front, nth, tag, parts, size, placed}
 use Rattle.fields.specs.Field.Field.{field}
 use Rattle.walking.specs.Walking.{walk, walk_parts, stmt_exprs}
 use Rattle.fields.specs.Table.{Listed}
@@ -42,7 +42,9 @@ module _ (s : List ℕ) (k wanted : ℕ) (t : List ℕ) (n g : ℕ) (e : g ≡ t
         (x : List ℕ) → fields x ≡ parts (front s) → (z : List ℕ) (r : ℕ) → Listed (places_of wanted (walk_parts (k + 3) (fields x))) u m z r →
         Listed (places_of wanted (walk k (front s))) t n z r
     expression-parts h u m p x f z r q =
-        rw (walk_step k (front s), ← e, ← c, not-false v h, places-cons wanted (record { place = k; this = front s }) (walk_parts (k + 3) (parts (front s))), ← e, ← f) (listed_then _ _ t u z n m r p q)
+        let here : Placed = record { place = k; this = front s } in
+        rw (walk_step k (front s), ← e, ← c, not-false v h, places-cons wanted here (walk_parts (k + 3) (parts (front s))), ← e, ← f)
+        (listed_then _ _ t u z n m r p q)
 
     pub expression-alone : not v ≡ false → (u : List ℕ) (m : ℕ) → Listed (cond (eqb g wanted) (k % 65536 ∷ []) []) t n u m →
         (x : List ℕ) → fields x ≡ parts (front s) → length x ≡ 0 → Listed (places_of wanted (walk k (front s))) t n u m

@@ -1,5 +1,5 @@
 -- Each kind of backing has its comparison.
-use Rattle.std.proofs.Common.{ℕ, ◌≡◌, Bool, true, false, List, rules}
+use Rattle.std.proofs.Common.{ℕ, ◌≡◌, Bool, true, false, List}
 use Rattle.fields.specs.Field.{front}
 use Rattle.equality.specs.Equality.{expr_eq}
 use Rattle.equality.specs.Amount.{amount_of}

@@ -1,6 +1,5 @@
 -- Each turn compares, and goes on with the first part where the rule does: a part is shorter than the field it is in.
-use Rattle.std.proofs.Common.{rules, length}
-use Rattle.bounds.proofs.Bounds.{Bounding, bounding-equal, bounding-stop, bounding-left, left-shorter}
+use Rattle.bounds.proofs.Bounds.{bounding-equal, bounding-stop, bounding-left, left-shorter}
 use Rattle.bounds.proofs.bounded_by.Goals as goal
 
 pub returns-then-backing_eq : goal.returns-then-backing_eq

@@ -1,5 +1,4 @@
 -- The backing is no parameter's.
-use Rattle.std.proofs.Common.{rules}
 use Rattle.bounds.specs.Backing.{backing_field}
 use Rattle.bounds.proofs.bounded_by_backing.Goals as goal
 

@@ -1,8 +1,8 @@
 -- Whoever lists the asset parameters that are left has listed all.
-use Rattle.std.proofs.Common.{arith, rules, length, ◌+◌}
+use Rattle.std.proofs.Common.{rules}
 use Rattle.laws.proofs.Told.{told}
 use Rattle.fields.proofs.Rows.{from_less}
-use Rattle.entries.proofs.Naming.{Naming, naming-first, naming-end, naming-place, naming-room, naming-on, naming-inside, at-fits, place-fits}
+use Rattle.entries.proofs.Naming.{naming-first, naming-end, naming-place, naming-room, naming-on, naming-inside, at-fits, place-fits}
 use Rattle.entries.proofs.calls.list_parameters.Goals as goal
 
 pub loop-row-init : goal.loop-row-init

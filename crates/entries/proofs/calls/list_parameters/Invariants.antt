@@ -1,8 +1,6 @@
 -- Whoever lists the asset parameters that are left has listed all.
-use Rattle.std.proofs.Common.{arith, rules, length, ◌+◌}
-use Rattle.laws.proofs.Told.{told}
-use Rattle.fields.proofs.Rows.{from_less}
-use Rattle.entries.proofs.Naming.{Naming, naming-first, naming-end, naming-place, naming-room, naming-on, naming-inside, at-fits, place-fits}
+use Rattle.std.proofs.Common.{length, ◌+◌}
+use Rattle.entries.proofs.Naming.{Naming}
 use Rattle.entries.proofs.calls.list_parameters.Given as goal
 
 abbrev pub invariant-loop-row : goal.invariant-loop-row

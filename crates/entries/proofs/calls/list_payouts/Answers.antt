@@ -1,7 +1,6 @@
 -- The calls before the i-th are gone through, and those that pass are listed.
-use Rattle.std.proofs.Common.{◌-◌, rules, length}
-use Rattle.walking.specs.Walking.{is_payout}
-use Rattle.entries.proofs.Choosing.{Choosing, choosing-none, choosing-same, choosing-done, choosing-on, note-fits}
+use Rattle.std.proofs.Common.{rules}
+use Rattle.entries.proofs.Choosing.{choosing-none, choosing-same, choosing-done, choosing-on, note-fits}
 use Rattle.entries.proofs.calls.list_payouts.Goals as goal
 
 pub loop-i-init : goal.loop-i-init

@@ -1,7 +1,7 @@
 -- The calls before the i-th are gone through, and those that pass are listed.
-use Rattle.std.proofs.Common.{◌-◌, rules, length}
+use Rattle.std.proofs.Common.{◌-◌, length}
 use Rattle.walking.specs.Walking.{is_payout}
-use Rattle.entries.proofs.Choosing.{Choosing, choosing-none, choosing-same, choosing-done, choosing-on, note-fits}
+use Rattle.entries.proofs.Choosing.{Choosing}
 use Rattle.entries.proofs.calls.list_payouts.Given as goal
 
 abbrev pub invariant-loop-i : goal.invariant-loop-i

@@ -1,5 +1,4 @@
 -- The debits among the calls, and behind them the asset parameters.
-use Rattle.std.proofs.Common.{rules}
 use Rattle.entries.proofs.Reading.{debits-standing, backings-read}
 use Rattle.entries.proofs.entry.read_backings.Goals as goal
 

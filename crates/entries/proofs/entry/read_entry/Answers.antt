@@ -1,5 +1,4 @@
 -- There is room for all calls, and what is read of them is the entry.
-use Rattle.std.proofs.Common.{rules}
 use Rattle.entries.proofs.Reading.{calls-fit, calls-part, calls-all}
 use Rattle.entries.proofs.entry.read_entry.Goals as goal
 

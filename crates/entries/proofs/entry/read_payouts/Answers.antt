@@ -1,5 +1,4 @@
 -- The payouts among the calls.
-use Rattle.std.proofs.Common.{rules}
 use Rattle.entries.proofs.Reading.{payouts-read}
 use Rattle.entries.proofs.entry.read_payouts.Goals as goal
 

@@ -1,5 +1,4 @@
 -- Equal up to i, so what is left decides; texts of different lengths differ somewhere.
-use Rattle.std.proofs.Common.{arith}
 use Rattle.laws.proofs.Texts.{lengths_differ}
 use Rattle.fields.proofs.bytes.same_bytes.Invariants.{agree-none, differ, agree-one, agree-all}
 use Rattle.fields.proofs.bytes.same_bytes.Goals as goal

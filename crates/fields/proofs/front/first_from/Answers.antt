@@ -1,5 +1,5 @@
 -- A field out of the range is passed over, and the first of the range is still ahead.
-use Rattle.std.proofs.Common.{◌≡◌, refl, sym, ◌∙◌, true, false, ◌&&◌, List, ℕ, leb, length, drop}
+use Rattle.std.proofs.Common.{◌≡◌, sym, ◌∙◌, true, false, ◌&&◌, List, ℕ, leb, length, drop}
 use lib.Seq.{drop-length}
 use Rattle.laws.proofs.Told.{told}
 use Rattle.fields.specs.Field.{whole, tag_of, after, from}

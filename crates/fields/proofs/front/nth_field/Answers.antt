@@ -1,5 +1,4 @@
 -- What is left behind i fields has the n-th at n - i.
-use Rattle.std.proofs.Common.{arith}
 use Rattle.fields.proofs.Places.{passed_none, passed-one, passed-all, passed-end, reads-nth}
 use Rattle.fields.proofs.front.nth_field.Goals as goal
 

@@ -1,5 +1,4 @@
 -- t starts with the i-th field of the range; the next is the first behind it.
-use Rattle.std.proofs.Common.{arith}
 use Rattle.fields.proofs.front.nth_from.Invariants.{passed_none, passed-one, passed-all, passed-end}
 use Rattle.fields.proofs.front.nth_from.Goals as goal
 

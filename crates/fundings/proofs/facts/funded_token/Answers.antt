@@ -1,5 +1,4 @@
 -- The number stands for the token.
-use Rattle.std.proofs.Common.{rules}
 use Rattle.fundings.proofs.Shown.{funding-read}
 use Rattle.fundings.proofs.facts.funded_token.Goals as goal
 

@@ -1,5 +1,4 @@
 -- The listed calls have the set of the tokens of all entries that fund the map.
-use Rattle.std.proofs.Common.{rules, arith}
 use Rattle.fundings.proofs.Through.{through-fits, through-room, through-listed, through-small}
 use Rattle.fundings.proofs.facts.funding_number.Goals as goal
 

@@ -1,5 +1,4 @@
 -- What is listed is written behind what is remembered.
-use Rattle.std.proofs.Common.{rules}
 use Rattle.fundings.proofs.Relisting.{relisted-none, relisted-all}
 use Rattle.fundings.proofs.facts.list_facts.Goals as goal
 

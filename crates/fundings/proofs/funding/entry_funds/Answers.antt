@@ -1,9 +1,7 @@
 -- The table has all calls of the body, and none that was passed funds the map.
-use Rattle.std.proofs.Common.{◌-◌, arith, rules}
-use Rattle.laws.proofs.Seeking.{Seeking, seeking-none}
-use Rattle.fields.specs.Field.{front}
-use Rattle.fundings.specs.FundingTokens.{funds}
-use Rattle.fundings.proofs.Funded.{funding_at, funding-all, funding-found, funding-on}
+use Rattle.std.proofs.Common.{rules}
+use Rattle.laws.proofs.Seeking.{seeking-none}
+use Rattle.fundings.proofs.Funded.{funding-all, funding-found, funding-on}
 use Rattle.fundings.proofs.funding.entry_funds.Goals as goal
 
 pub loop-i-init : goal.loop-i-init

@@ -1,9 +1,9 @@
 -- The table has all calls of the body, and none that was passed funds the map.
-use Rattle.std.proofs.Common.{◌-◌, arith, rules}
-use Rattle.laws.proofs.Seeking.{Seeking, seeking-none}
+use Rattle.std.proofs.Common.{◌-◌}
+use Rattle.laws.proofs.Seeking.{Seeking}
 use Rattle.fields.specs.Field.{front}
 use Rattle.fundings.specs.FundingTokens.{funds}
-use Rattle.fundings.proofs.Funded.{funding_at, funding-all, funding-found, funding-on}
+use Rattle.fundings.proofs.Funded.{funding_at}
 use Rattle.fundings.proofs.funding.entry_funds.Given as goal
 
 abbrev pub invariant-loop-i : goal.invariant-loop-i

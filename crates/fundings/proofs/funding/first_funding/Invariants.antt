@@ -1,11 +1,8 @@
 -- An entry that does not fund the map is passed over, and the first that does is still ahead.
-use Rattle.std.proofs.Common.{◌-◌, ◌≡◌, rules, length, drop}
-use Rattle.laws.proofs.Told.{told_is}
+use Rattle.std.proofs.Common.{◌-◌, ◌≡◌, length, drop}
 use Rattle.tags.specs.Tag.{Entry}
-use Rattle.fields.proofs.Rows.{from_less}
-use Rattle.fields.proofs.Choosing.{Choosing, choosing-first, choosing-none, choosing-here, choosing-on}
+use Rattle.fields.proofs.Choosing.{Choosing}
 use Rattle.fundings.specs.FundingTokens.{funds}
-use Rattle.fields.proofs.Tails.{tail-first, tail-next}
 use Rattle.fundings.proofs.funding.first_funding.Given as goal
 
 abbrev pub invariant-loop-t : goal.invariant-loop-t

@@ -1,6 +1,5 @@
 -- What was found so far and the calls that are left have the set of all; two that differ stay so.
-use Rattle.std.proofs.Common.{rules, arith, ◌-◌, length}
-use Rattle.fundings.proofs.Through.{Going, going-all, going-several, going_on, going_done}
+use Rattle.fundings.proofs.Through.{going-all, going-several, going_on, going_done}
 use Rattle.fundings.proofs.ledger.found_through.Goals as goal
 
 pub loop-i-init : goal.loop-i-init

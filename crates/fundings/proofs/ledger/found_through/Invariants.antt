@@ -1,6 +1,6 @@
 -- What was found so far and the calls that are left have the set of all; two that differ stay so.
-use Rattle.std.proofs.Common.{rules, arith, ◌-◌, length}
-use Rattle.fundings.proofs.Through.{Going, going-all, going-several, going_on, going_done}
+use Rattle.std.proofs.Common.{◌-◌, length}
+use Rattle.fundings.proofs.Through.{Going}
 use Rattle.fundings.proofs.ledger.found_through.Given as goal
 
 abbrev pub invariant-loop-i : goal.invariant-loop-i

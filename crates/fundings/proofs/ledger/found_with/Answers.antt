@@ -1,6 +1,5 @@
 -- A call of another map changes nothing.
 use Rattle.fundings.proofs.Through.{other-call, call-of-map}
-use Rattle.std.proofs.Common.{rules}
 use Rattle.fundings.proofs.ledger.found_with.Goals as goal
 
 pub returns-then-not-same_bytes : goal.returns-then-not-same_bytes

@@ -1,9 +1,5 @@
 -- None of the calls that were passed funds a map.
-use Rattle.std.proofs.Common.{rules, arith, ◌-◌, length}
-use Rattle.laws.proofs.Seeking.{Seeking, seeking-none}
-use Rattle.laws.specs.Lists.{any}
-use Rattle.fields.specs.Field.{front}
-use Rattle.fundings.specs.Fundings.{funding_call_at}
+use Rattle.laws.proofs.Seeking.{seeking-none}
 use Rattle.fundings.proofs.Filling.{call-first, call-found, call-on}
 use Rattle.fundings.proofs.ledger.has_funding_call.Goals as goal
 

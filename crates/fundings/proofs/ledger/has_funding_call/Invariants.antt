@@ -1,10 +1,9 @@
 -- None of the calls that were passed funds a map.
-use Rattle.std.proofs.Common.{rules, arith, ◌-◌, length}
-use Rattle.laws.proofs.Seeking.{Seeking, seeking-none}
+use Rattle.std.proofs.Common.{◌-◌, length}
+use Rattle.laws.proofs.Seeking.{Seeking}
 use Rattle.laws.specs.Lists.{any}
 use Rattle.fields.specs.Field.{front}
 use Rattle.fundings.specs.Fundings.{funding_call_at}
-use Rattle.fundings.proofs.Filling.{call-first, call-found, call-on}
 use Rattle.fundings.proofs.ledger.has_funding_call.Given as goal
 
 abbrev pub invariant-loop-i : goal.invariant-loop-i

@@ -1,7 +1,6 @@
 -- Whoever lists the calls that are left has listed all.
-use Rattle.std.proofs.Common.{rules, arith, ◌-◌, length}
-use Rattle.fields.specs.Field.{front}
-use Rattle.fundings.proofs.Filling.{Filling, filling-all, filling-room, filling-on, filling-done}
+use Rattle.std.proofs.Common.{rules}
+use Rattle.fundings.proofs.Filling.{filling-all, filling-room, filling-on, filling-done}
 use Rattle.fundings.proofs.ledger.list_calls.Goals as goal
 
 pub loop-i-init : goal.loop-i-init

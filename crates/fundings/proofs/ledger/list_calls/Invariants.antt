@@ -1,7 +1,7 @@
 -- Whoever lists the calls that are left has listed all.
-use Rattle.std.proofs.Common.{rules, arith, ◌-◌, length}
+use Rattle.std.proofs.Common.{◌-◌, length}
 use Rattle.fields.specs.Field.{front}
-use Rattle.fundings.proofs.Filling.{Filling, filling-all, filling-room, filling-on, filling-done}
+use Rattle.fundings.proofs.Filling.{Filling}
 use Rattle.fundings.proofs.ledger.list_calls.Given as goal
 
 abbrev pub invariant-loop-i : goal.invariant-loop-i

@@ -1,8 +1,7 @@
 -- What stands in front of an entry is what is cut off, so its place is known; whoever lists those that are left has listed all.
-use Rattle.std.proofs.Common.{rules, arith, length}
 use Rattle.laws.proofs.Told.{told_is}
 use Rattle.fields.proofs.Rows.{from_less}
-use Rattle.fundings.proofs.Entering.{Entering, entering-first, entering-here, entering-on, entering-done}
+use Rattle.fundings.proofs.Entering.{entering-first, entering-here, entering-on, entering-done}
 use Rattle.fundings.proofs.ledger.list_fundings.Goals as goal
 
 pub loop-t-init : goal.loop-t-init
@@ -18,4 +17,4 @@ pub loop-t-preserved : goal.loop-t-preserved
 loop-t-preserved c = search (entering-on, told_is)
 
 pub returns : goal.returns
-returns c = search (entering-done, told_is)  -- returns
+returns c = search (entering-done, told_is)

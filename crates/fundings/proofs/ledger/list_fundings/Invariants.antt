@@ -1,8 +1,6 @@
 -- What stands in front of an entry is what is cut off, so its place is known; whoever lists those that are left has listed all.
-use Rattle.std.proofs.Common.{rules, arith, length}
-use Rattle.laws.proofs.Told.{told_is}
-use Rattle.fields.proofs.Rows.{from_less}
-use Rattle.fundings.proofs.Entering.{Entering, entering-first, entering-here, entering-on, entering-done}
+use Rattle.std.proofs.Common.{length}
+use Rattle.fundings.proofs.Entering.{Entering}
 use Rattle.fundings.proofs.ledger.list_fundings.Given as goal
 
 abbrev pub invariant-loop-t : goal.invariant-loop-t

@@ -1,9 +1,9 @@
 -- Entry by entry, and in each condition by condition, the set found so far and what is ahead have the tokens of all; two that
 -- differ stay so.
-use Rattle.std.proofs.Common.{◌-◌, arith, rules, length}
+use Rattle.std.proofs.Common.{rules}
 use Rattle.laws.proofs.Told.{told}
-use Rattle.tokens.proofs.Numbers.{Joining, mark_number, conditions-all, joining-from, joining-on, joining-done, joining-several}
-use Rattle.fundings.proofs.Funders.{Ledger, found_within, ledger-all, ledger-token, ledger-small, ledger-here, ledger-several, ledger-room, ledger-falls, ledger-next}
+use Rattle.tokens.proofs.Numbers.{conditions-all, joining-from, joining-on, joining-done, joining-several}
+use Rattle.fundings.proofs.Funders.{ledger-all, ledger-token, ledger-small, ledger-here, ledger-several, ledger-room, ledger-falls, ledger-next}
 use Rattle.fundings.proofs.token.ledger_funding_number.Goals as goal
 
 pub search-init : goal.search-init

@@ -1,5 +1,4 @@
 -- The number stands for the token, which stands where the definition says.
-use Rattle.std.proofs.Common.{rules}
 use Rattle.fundings.proofs.Shown.{funding-read, funding-there}
 use Rattle.fundings.proofs.token.ledger_funding_token.Goals as goal
 

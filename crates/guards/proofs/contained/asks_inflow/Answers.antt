@@ -1,5 +1,4 @@
 -- What is looked into is the amount at the place.
-use Rattle.std.proofs.Common.{rules}
 use Rattle.guards.proofs.Asking.{asks_read}
 use Rattle.guards.proofs.contained.asks_inflow.Goals as goal
 

@@ -1,5 +1,4 @@
 -- Only a member can be `p.amount`, so those in the lent table, which has room for all, decide.
-use Rattle.std.proofs.Common.{rules}
 use Rattle.guards.proofs.Members.{nameless, members-room, members-count, members-read, by_members}
 use Rattle.guards.proofs.contained.contains_inflow.Goals as goal
 

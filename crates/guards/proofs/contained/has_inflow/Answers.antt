@@ -1,10 +1,6 @@
 -- The table has all members of the amount, and none that was passed is `p.amount`.
-use Rattle.std.proofs.Common.{◌-◌, arith, rules, length}
-use Rattle.fields.proofs.AtPlaces.{field_at, field_found, field-on}
-use Rattle.laws.proofs.Seeking.{Seeking, seeking-none}
-use Rattle.fields.specs.Field.{front}
-use Rattle.tokens.specs.Tokens.{is_inflow}
-use Rattle.guards.specs.Members.{member_inflow}
+use Rattle.fields.proofs.AtPlaces.{field_found, field-on}
+use Rattle.laws.proofs.Seeking.{seeking-none}
 use Rattle.guards.proofs.Members.{members-any}
 use Rattle.guards.proofs.contained.has_inflow.Goals as goal
 

@@ -1,6 +1,5 @@
 -- The payouts before i are gone through, and those whose amount contains what comes in are listed.
-use Rattle.std.proofs.Common.{◌-◌, rules, arith, length}
-use Rattle.guards.proofs.Asking.{Asking, asking-none, asking-on, asking-done, asking-few}
+use Rattle.guards.proofs.Asking.{asking-none, asking-on, asking-done, asking-few}
 use Rattle.guards.proofs.contained.list_asking.Goals as goal
 
 pub loop-i-init : goal.loop-i-init

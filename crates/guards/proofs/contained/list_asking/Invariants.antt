@@ -1,6 +1,6 @@
 -- The payouts before i are gone through, and those whose amount contains what comes in are listed.
-use Rattle.std.proofs.Common.{◌-◌, rules, arith, length}
-use Rattle.guards.proofs.Asking.{Asking, asking-none, asking-on, asking-done, asking-few}
+use Rattle.std.proofs.Common.{◌-◌, length}
+use Rattle.guards.proofs.Asking.{Asking}
 use Rattle.guards.proofs.contained.list_asking.Given as goal
 
 abbrev pub invariant-loop-i : goal.invariant-loop-i

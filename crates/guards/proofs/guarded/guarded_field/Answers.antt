@@ -1,5 +1,5 @@
 -- The operator of the peeled guard says on which side the field stands.
-use Rattle.std.proofs.Common.{ℕ, ◌≡◌, ◌∙◌, Bool, true, false, ◌||◌, List, [], eqb, rules}
+use Rattle.std.proofs.Common.{ℕ, ◌≡◌, ◌∙◌, Bool, true, false, ◌||◌, List, [], eqb}
 use Rattle.tags.specs.Tag.{Gt, Ge, Lt, Le}
 use Rattle.fields.specs.Field.{Field, front, tag, part}
 use Rattle.walking.specs.Walking.{peel, ident}

@@ -1,5 +1,5 @@
 -- The walk counts the Wrappings, and there is one where the count is not 0.
-use Rattle.std.proofs.Common.{ℕ, ◌≡◌, List, arith, leb, length, rules}
+use Rattle.std.proofs.Common.{ℕ, ◌≡◌, List, arith, leb, length}
 use Rattle.fields.specs.Table.{Listed}
 use Rattle.fields.specs.Field.{front}
 use Rattle.walking.specs.Walking.{walk}

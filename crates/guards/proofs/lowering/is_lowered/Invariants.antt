@@ -1,10 +1,10 @@
 -- None that was passed lowers the field, so those that are left decide.
-use Rattle.std.proofs.Common.{◌-◌, arith, rules, length}
+use Rattle.std.proofs.Common.{◌-◌, length}
 use Rattle.fields.specs.Table.{fields_at}
 use Rattle.laws.specs.Lists.{any}
-use Rattle.laws.proofs.Seeking.{Seeking, seeking-none}
+use Rattle.laws.proofs.Seeking.{Seeking}
 use Rattle.fields.specs.Field.{front}
-use Rattle.fields.proofs.AtPlaces.{field_at, fields-any, field_found, field-on}
+use Rattle.fields.proofs.AtPlaces.{field_at}
 use Rattle.guards.specs.Lowerings.{may_lower}
 use Rattle.guards.proofs.lowering.is_lowered.Given as goal
 

@@ -1,5 +1,5 @@
 -- The three tests of a lowering: what is no assignment lowers nothing.
-use Rattle.std.proofs.Common.{ℕ, ◌≡◌, Bool, true, false, not, List, rules}
+use Rattle.std.proofs.Common.{ℕ, ◌≡◌, Bool, true, false, not, List}
 use borrow.Author.Tests.{not-true, not-false}
 use Rattle.laws.specs.Lists.{any}
 use Rattle.tags.specs.Tag.{is_assign}

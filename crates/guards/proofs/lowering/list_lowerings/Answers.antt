@@ -5,7 +5,6 @@ use Rattle.fields.specs.Table.{Listed}
 use Rattle.fields.specs.Field.{Field, fields, whole, front, parts, sizes}
 use Rattle.fields.proofs.Reading.{after_less}
 use Rattle.fields.proofs.Listing.{down-note, along-fits, Listing, listing-all, listing-on, listing-done}
-use Rattle.guards.specs.Asked.{asked_amounts}
 use Rattle.guards.specs.Lowerings.{lowering_places}
 use Rattle.guards.proofs.Lowerings.{many_of, lowering-row, lowering-noted}
 use Rattle.guards.proofs.lowering.list_lowerings.Goals as goal

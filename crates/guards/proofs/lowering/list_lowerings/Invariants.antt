@@ -1,13 +1,8 @@
 -- Whoever lists what is left of the entry's parts has listed all.
-use Rattle.std.proofs.Common.{ℕ, ◌-◌, ◌^◌, ◌≤◌, ◌<◌, ◌≡◌, false, List, arith, rules, length, take, drop, length-take, length-drop}
-use Rattle.laws.proofs.Told.{told}
-use Rattle.fields.specs.Table.{Listed}
-use Rattle.fields.specs.Field.{Field, fields, whole, front, parts, sizes}
-use Rattle.fields.proofs.Reading.{after_less}
-use Rattle.fields.proofs.Listing.{down-note, along-fits, Listing, listing-all, listing-on, listing-done}
+use Rattle.std.proofs.Common.{length}
+use Rattle.fields.proofs.Listing.{Listing}
 use Rattle.guards.specs.Asked.{asked_amounts}
-use Rattle.guards.specs.Lowerings.{lowering_places}
-use Rattle.guards.proofs.Lowerings.{many_of, lowering-row, lowering-noted}
+use Rattle.guards.proofs.Lowerings.{many_of}
 use Rattle.guards.proofs.lowering.list_lowerings.Given as goal
 
 abbrev pub invariant-loop-t : goal.invariant-loop-t

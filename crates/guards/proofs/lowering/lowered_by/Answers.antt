@@ -1,5 +1,5 @@
 -- A subtraction lowers by its value, and r set to r minus something by that.
-use Rattle.std.proofs.Common.{ℕ, ◌≡◌, refl, ◌∙◌, Bool, true, false, List, [], rules, eq-eqb, ne_eqb}
+use Rattle.std.proofs.Common.{ℕ, ◌≡◌, refl, ◌∙◌, Bool, true, false, List, [], eq-eqb, ne_eqb}
 use Rattle.fields.specs.Field.{Field, front, tag, part}
 use Rattle.fields.proofs.Reading.{front-none}
 use Rattle.walking.specs.Walking.{peel}

@@ -1,5 +1,4 @@
 -- The payout stands at the place, and its amount inside it.
-use Rattle.std.proofs.Common.{rules}
 use Rattle.guards.proofs.Paid.{paid-read, paid-within}
 use Rattle.guards.proofs.payout.amount_paid.Goals as goal
 

@@ -1,5 +1,4 @@
 -- The payout stands at the place that the table has.
-use Rattle.std.proofs.Common.{rules}
 use Rattle.guards.proofs.Paid.{asked-read}
 use Rattle.guards.proofs.payout.asked_amount.Goals as goal
 

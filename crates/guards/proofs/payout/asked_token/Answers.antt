@@ -1,5 +1,5 @@
 -- The payout stands at the place that the table has.
-use Rattle.std.proofs.Common.{◌≡◌, List, ℕ, rules, get_or, drop}
+use Rattle.std.proofs.Common.{◌≡◌, List, ℕ, get_or, drop}
 use Rattle.fields.specs.Field.{front}
 use Rattle.guards.specs.Payouts.{payout_token}
 use Rattle.guards.specs.Asked.{asked_token}

@@ -1,12 +1,5 @@
 -- None that was passed is equal, so those that are left decide.
-use Rattle.std.proofs.Common.{ℕ, ◌+◌, ◌-◌, ◌<◌, ◌≡◌, sym, ◌∙◌, Bool, true, false, List, arith, rules, length, get_or}
-use lib.Seq.{take-length}
-use Rattle.laws.proofs.Lists.{any-map}
-use Rattle.laws.proofs.Seeking.{Seeking, seeking-all, seeking-found, seeking-on, seeking-none}
-use Rattle.laws.specs.Lists.{any}
-use Rattle.fields.specs.Field.{Field, front}
-use Rattle.equality.specs.Equality.{expr_eq}
-use Rattle.guards.specs.Asked.{paid_at, asked_amount, asked_amounts}
+use Rattle.laws.proofs.Seeking.{seeking-none}
 use Rattle.guards.proofs.payout.is_asked.Invariants.{none_passed, found, one_more}
 use Rattle.guards.proofs.payout.is_asked.Goals as goal
 

@@ -1,8 +1,8 @@
 -- None that was passed is equal, so those that are left decide.
-use Rattle.std.proofs.Common.{ℕ, ◌+◌, ◌-◌, ◌<◌, ◌≡◌, sym, ◌∙◌, Bool, true, false, List, arith, rules, length, get_or}
+use Rattle.std.proofs.Common.{ℕ, ◌+◌, ◌-◌, ◌<◌, ◌≡◌, sym, ◌∙◌, Bool, true, false, List, arith, length, get_or}
 use lib.Seq.{take-length}
 use Rattle.laws.proofs.Lists.{any-map}
-use Rattle.laws.proofs.Seeking.{Seeking, seeking-all, seeking-found, seeking-on, seeking-none}
+use Rattle.laws.proofs.Seeking.{Seeking, seeking-all, seeking-found, seeking-on}
 use Rattle.laws.specs.Lists.{any}
 use Rattle.fields.specs.Field.{Field, front}
 use Rattle.equality.specs.Equality.{expr_eq}

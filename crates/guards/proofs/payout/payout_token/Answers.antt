@@ -1,5 +1,5 @@
 -- The readers are the definition's, one inside the other.
-use Rattle.std.proofs.Common.{◌≡◌, List, ℕ, rules}
+use Rattle.std.proofs.Common.{◌≡◌, List, ℕ}
 use Rattle.fields.specs.Field.{front, part}
 use Rattle.walking.specs.Walking.{peel, ident}
 use Rattle.guards.specs.Payouts.{payout_token}

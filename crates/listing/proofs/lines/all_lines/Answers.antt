@@ -1,6 +1,5 @@
 -- The lines of the records from the n-th on are what is left to write.
-use Rattle.std.proofs.Common.{rules, ◌-◌}
-use Rattle.listing.proofs.Reading.{Reading, reading-none, reading-on, reading-all}
+use Rattle.listing.proofs.Reading.{reading-none, reading-on, reading-all}
 use Rattle.listing.proofs.lines.all_lines.Goals as goal
 
 pub loop-n-init : goal.loop-n-init

@@ -1,6 +1,6 @@
 -- The lines of the records from the n-th on are what is left to write.
-use Rattle.std.proofs.Common.{rules, ◌-◌}
-use Rattle.listing.proofs.Reading.{Reading, reading-none, reading-on, reading-all}
+use Rattle.std.proofs.Common.{◌-◌}
+use Rattle.listing.proofs.Reading.{Reading}
 use Rattle.listing.proofs.lines.all_lines.Given as goal
 
 abbrev pub invariant-loop-n : goal.invariant-loop-n

@@ -4,4 +4,4 @@ use Rattle.listing.proofs.Covers.{cover-lined}
 use Rattle.listing.proofs.lines.cover_line.Goals as goal
 
 pub returns : goal.returns
-returns c = search (cover-lined, rules)  -- returns
+returns c = search (cover-lined, rules)

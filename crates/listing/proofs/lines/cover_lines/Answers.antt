@@ -1,6 +1,6 @@
 -- The lines of the covers before the k-th are written.
-use Rattle.std.proofs.Common.{◌-◌, rules}
-use Rattle.listing.proofs.Covers.{Listed, listed-none, listed-on, listed-all}
+use Rattle.std.proofs.Common.{rules}
+use Rattle.listing.proofs.Covers.{listed-none, listed-on, listed-all}
 use Rattle.listing.proofs.lines.cover_lines.Goals as goal
 
 pub loop-k-init : goal.loop-k-init

@@ -1,6 +1,6 @@
 -- The lines of the covers before the k-th are written.
-use Rattle.std.proofs.Common.{◌-◌, rules}
-use Rattle.listing.proofs.Covers.{Listed, listed-none, listed-on, listed-all}
+use Rattle.std.proofs.Common.{◌-◌}
+use Rattle.listing.proofs.Covers.{Listed}
 use Rattle.listing.proofs.lines.cover_lines.Given as goal
 
 abbrev pub invariant-loop-k : goal.invariant-loop-k

@@ -1,5 +1,4 @@
 -- Where the shorter buffer has room for more than was written, all of the records are in it.
-use Rattle.std.proofs.Common.{rules}
 use Rattle.listing.proofs.Back.{listing-short}
 use Rattle.listing.proofs.lines.listing.Goals as goal
 

@@ -1,5 +1,4 @@
 -- The text of the file's records is its listing, and the buffer holds them all.
-use Rattle.std.proofs.Common.{rules}
 use Rattle.listing.proofs.Back.{listing-long}
 use Rattle.listing.proofs.lines.long_listing.Goals as goal
 

@@ -1,5 +1,4 @@
 -- What the record is decides.
-use Rattle.std.proofs.Common.{rules}
 use Rattle.listing.proofs.Reading.{lines-refused, lines-rejected, lines-accepted}
 use Rattle.listing.proofs.lines.record_lines.Goals as goal
 

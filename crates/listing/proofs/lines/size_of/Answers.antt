@@ -1,5 +1,4 @@
 -- Only an accepted entry's record has covers behind its numbers.
-use Rattle.std.proofs.Common.{rules}
 use Rattle.listing.proofs.Reading.{size-alone, size-covers}
 use Rattle.listing.proofs.lines.size_of.Goals as goal
 

@@ -1,5 +1,4 @@
 -- A text, and then a number.
-use Rattle.std.proofs.Common.{rules}
 use Rattle.output.proofs.Buffer.{written_then}
 use Rattle.listing.proofs.text.write_both.Goals as goal
 

@@ -1,5 +1,4 @@
 -- The pieces are written one behind the other.
-use Rattle.std.proofs.Common.{rules}
 use Rattle.listing.proofs.Pieces.{two-written}
 use Rattle.listing.proofs.text.write_two.Goals as goal
 

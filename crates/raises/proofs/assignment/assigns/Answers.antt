@@ -1,5 +1,5 @@
 -- What is no assignment assigns nothing, and of an assignment the target decides.
-use Rattle.std.proofs.Common.{ℕ, ◌≡◌, ◌∙◌, Bool, true, false, not, List, rules}
+use Rattle.std.proofs.Common.{ℕ, ◌≡◌, ◌∙◌, Bool, true, false, not, List}
 use borrow.Author.Tests.{not-true, not-false}
 use Rattle.laws.specs.Texts.{same_bytes}
 use Rattle.tags.specs.Tag.{is_assign}

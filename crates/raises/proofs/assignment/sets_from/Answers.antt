@@ -1,5 +1,5 @@
 -- The first of the three tests that fails decides, and the last where none does.
-use Rattle.std.proofs.Common.{ℕ, ◌≡◌, ◌∙◌, Bool, false, List, rules, eq-eqb, ne_eqb}
+use Rattle.std.proofs.Common.{ℕ, ◌≡◌, ◌∙◌, Bool, false, List, eq-eqb, ne_eqb}
 use Rattle.laws.specs.Texts.{same_bytes}
 use Rattle.fields.specs.Field.{Field, front, tag, part}
 use Rattle.walking.specs.Walking.{peel, ident}

@@ -1,5 +1,5 @@
 -- The value is the second part of an assignment.
-use Rattle.std.proofs.Common.{◌≡◌, List, ℕ, rules}
+use Rattle.std.proofs.Common.{◌≡◌, List, ℕ}
 use Rattle.fields.specs.Field.{front, part}
 use Rattle.walking.specs.Walking.{peel}
 use Rattle.raises.specs.Raises.{value}

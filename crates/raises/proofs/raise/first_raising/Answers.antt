@@ -1,11 +1,8 @@
 -- An entry that does not raise the field is passed over, and the first that does is still ahead.
-use Rattle.std.proofs.Common.{◌-◌, ◌≡◌, rules, length, drop}
 use Rattle.laws.proofs.Told.{told_is}
-use Rattle.tags.specs.Tag.{Entry}
 use Rattle.fields.proofs.Rows.{from_less}
-use Rattle.fields.proofs.Choosing.{Choosing, choosing-first, choosing-none, choosing-here, choosing-on}
+use Rattle.fields.proofs.Choosing.{choosing-first, choosing-none, choosing-here, choosing-on}
 use Rattle.fields.proofs.Tails.{tail-first, tail-next}
-use Rattle.raises.specs.Raising.{raising}
 use Rattle.raises.proofs.raise.first_raising.Goals as goal
 
 pub loop-t-init : goal.loop-t-init

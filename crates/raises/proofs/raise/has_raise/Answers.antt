@@ -1,5 +1,5 @@
 -- There is a raise where the search for the first finds one.
-use Rattle.std.proofs.Common.{ℕ, ◌≡◌, refl, ◌∙◌, Bool, true, false, cond, ◌||◌, List, [], ◌∷◌, rules}
+use Rattle.std.proofs.Common.{ℕ, ◌≡◌, refl, ◌∙◌, Bool, true, false, cond, ◌||◌, List, [], ◌∷◌}
 use Rattle.laws.specs.Lists.{any, filter}
 use Rattle.tags.specs.Tag.{Guard, ExpressionStatement}
 use Rattle.fields.specs.Field.{Field, fields, whole, front, parts, fields_from}

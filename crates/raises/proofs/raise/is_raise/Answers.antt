@@ -1,5 +1,5 @@
 -- The first of the three tests that fails decides, and the last where none does.
-use Rattle.std.proofs.Common.{ℕ, ◌≡◌, sym, Bool, true, false, not, List, rules, eq-eqb, ne_eqb}
+use Rattle.std.proofs.Common.{ℕ, ◌≡◌, sym, Bool, true, false, not, List, eq-eqb, ne_eqb}
 use mathlib.Core.Bool.{and-false}
 use borrow.Author.Tests.{not-true, not-false}
 use Rattle.fields.specs.Field.{Field, tag}

@@ -1,5 +1,5 @@
 -- The first raise behind a statement.
-use Rattle.std.proofs.Common.{ℕ, ◌≤◌, ◌≡◌, List, rules, length}
+use Rattle.std.proofs.Common.{ℕ, ◌≤◌, ◌≡◌, List, length}
 use Rattle.laws.specs.Lists.{filter}
 use Rattle.tags.specs.Tag.{Guard, ExpressionStatement}
 use Rattle.fields.specs.Field.{fields, after, fields_from}

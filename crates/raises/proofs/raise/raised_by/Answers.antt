@@ -1,5 +1,5 @@
 -- The field itself plus v is a raise by v, anything else by the whole value.
-use Rattle.std.proofs.Common.{ℕ, ◌≡◌, ◌∙◌, Bool, true, false, List, rules}
+use Rattle.std.proofs.Common.{ℕ, ◌≡◌, ◌∙◌, Bool, true, false, List}
 use Rattle.fields.specs.Field.{Field, front, part}
 use Rattle.walking.specs.Walking.{peel}
 use Rattle.raises.specs.Raises.{value, sets_from}

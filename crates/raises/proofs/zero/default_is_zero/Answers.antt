@@ -1,13 +1,7 @@
 -- All state fields that were passed over pass, so those ahead decide.
-use Rattle.std.proofs.Common.{rules, length}
-use Rattle.laws.specs.Lists.{all}
-use Rattle.laws.proofs.Told.{told_is, told-not, told-so}
-use Rattle.tags.specs.Tag.{State}
-use Rattle.fields.specs.Field.{fields}
+use Rattle.laws.proofs.Told.{told_is}
 use Rattle.fields.proofs.Rows.{from_less}
-use Rattle.raises.specs.Raises.{is_zero, defaults}
-use Rattle.raises.specs.Raising.{default_passes}
-use Rattle.raises.proofs.Passing.{Passing, passing-end, passing-fails, passing-on}
+use Rattle.raises.proofs.Passing.{passing-end, passing-fails, passing-on}
 use Rattle.raises.proofs.Zeros.{defaults-all}
 use Rattle.raises.proofs.zero.default_is_zero.Goals as goal
 
@@ -15,13 +9,13 @@ pub loop-t-init : goal.loop-t-init
 loop-t-init c = search defaults-all
 
 pub returns-then-not-default_passes : goal.returns-then-not-default_passes
-returns-then-not-default_passes c = search (passing-fails, told_is, told-not)
+returns-then-not-default_passes c = search (passing-fails, told_is)
 
 pub loop-t-smaller : goal.loop-t-smaller
 loop-t-smaller c = search (from_less, told_is)
 
 pub loop-t-preserved : goal.loop-t-preserved
-loop-t-preserved c = search (passing-on, told_is, told-so)
+loop-t-preserved c = search (passing-on, told_is)
 
 pub returns : goal.returns
 returns c = search (passing-end, told_is)

@@ -1,5 +1,5 @@
 -- A state field of another name passes, and one with no default; else the default decides.
-use Rattle.std.proofs.Common.{ℕ, ◌≡◌, ◌∙◌, Bool, true, false, not, List, rules}
+use Rattle.std.proofs.Common.{ℕ, ◌≡◌, ◌∙◌, Bool, true, false, not, List}
 use borrow.Author.Tests.{not-true, not-false}
 use Rattle.laws.specs.Texts.{same_bytes}
 use Rattle.fields.specs.Field.{Field, front, part}

@@ -1,13 +1,7 @@
 -- All genesis statements that were passed over pass, so those ahead decide.
-use Rattle.std.proofs.Common.{rules, length}
-use Rattle.laws.specs.Lists.{all}
-use Rattle.laws.proofs.Told.{told_is, told-not, told-so}
-use Rattle.tags.specs.Tag.{Genesis}
-use Rattle.fields.specs.Field.{fields}
+use Rattle.laws.proofs.Told.{told_is}
 use Rattle.fields.proofs.Rows.{from_less}
-use Rattle.raises.specs.Raises.{is_zero, genesis_values}
-use Rattle.raises.specs.Raising.{genesis_passes}
-use Rattle.raises.proofs.Passing.{Passing, passing-end, passing-fails, passing-on}
+use Rattle.raises.proofs.Passing.{passing-end, passing-fails, passing-on}
 use Rattle.raises.proofs.Zeros.{genesis-all}
 use Rattle.raises.proofs.zero.genesis_is_zero.Goals as goal
 
@@ -15,13 +9,13 @@ pub loop-t-init : goal.loop-t-init
 loop-t-init c = search genesis-all
 
 pub returns-then-not-genesis_passes : goal.returns-then-not-genesis_passes
-returns-then-not-genesis_passes c = search (passing-fails, told_is, told-not)
+returns-then-not-genesis_passes c = search (passing-fails, told_is)
 
 pub loop-t-smaller : goal.loop-t-smaller
 loop-t-smaller c = search (from_less, told_is)
 
 pub loop-t-preserved : goal.loop-t-preserved
-loop-t-preserved c = search (passing-on, told_is, told-so)
+loop-t-preserved c = search (passing-on, told_is)
 
 pub returns : goal.returns
 returns c = search (passing-end, told_is)

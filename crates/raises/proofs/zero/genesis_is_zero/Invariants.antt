@@ -1,14 +1,11 @@
 -- All genesis statements that were passed over pass, so those ahead decide.
-use Rattle.std.proofs.Common.{rules, length}
+use Rattle.std.proofs.Common.{length}
 use Rattle.laws.specs.Lists.{all}
-use Rattle.laws.proofs.Told.{told_is, told-not, told-so}
 use Rattle.tags.specs.Tag.{Genesis}
 use Rattle.fields.specs.Field.{fields}
-use Rattle.fields.proofs.Rows.{from_less}
 use Rattle.raises.specs.Raises.{is_zero, genesis_values}
 use Rattle.raises.specs.Raising.{genesis_passes}
-use Rattle.raises.proofs.Passing.{Passing, passing-end, passing-fails, passing-on}
-use Rattle.raises.proofs.Zeros.{genesis-all}
+use Rattle.raises.proofs.Passing.{Passing}
 use Rattle.raises.proofs.zero.genesis_is_zero.Given as goal
 
 abbrev pub invariant-loop-t : goal.invariant-loop-t

@@ -1,5 +1,5 @@
 -- A statement that does not assign to the field passes, and of one that does the value decides.
-use Rattle.std.proofs.Common.{ℕ, ◌≡◌, ◌∙◌, Bool, true, false, not, List, rules}
+use Rattle.std.proofs.Common.{ℕ, ◌≡◌, ◌∙◌, Bool, true, false, not, List}
 use borrow.Author.Tests.{not-true, not-false}
 use Rattle.fields.specs.Field.{Field, front, part}
 use Rattle.raises.specs.Raises.{assigns, is_zero}

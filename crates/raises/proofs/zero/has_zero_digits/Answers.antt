@@ -1,5 +1,5 @@
 -- Every byte that was passed is 0 or _, so those that are left decide.
-use Rattle.std.proofs.Common.{ℕ, ◌-◌, refl, List, arith, rules, length}
+use Rattle.std.proofs.Common.{ℕ, refl, List}
 use Rattle.laws.proofs.Testing.{Testing, testing-none, testing-all, testing-fails, testing-on}
 use Rattle.raises.specs.Raising.{zero_digit, zero_digits}
 use Rattle.raises.proofs.zero.has_zero_digits.Goals as goal

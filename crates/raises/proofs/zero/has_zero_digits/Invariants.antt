@@ -1,6 +1,6 @@
 -- Every byte that was passed is 0 or _, so those that are left decide.
-use Rattle.std.proofs.Common.{ℕ, ◌-◌, refl, List, arith, rules, length}
-use Rattle.laws.proofs.Testing.{Testing, testing-none, testing-all, testing-fails, testing-on}
+use Rattle.std.proofs.Common.{◌-◌, length}
+use Rattle.laws.proofs.Testing.{Testing}
 use Rattle.raises.specs.Raising.{zero_digit, zero_digits}
 use Rattle.raises.proofs.zero.has_zero_digits.Given as goal
 

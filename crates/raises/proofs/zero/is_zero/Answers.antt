@@ -1,5 +1,5 @@
 -- What is no integer is not zero, and of an integer the text decides.
-use Rattle.std.proofs.Common.{ℕ, ◌≡◌, ◌∙◌, Bool, false, List, rules, eq-eqb, ne_eqb}
+use Rattle.std.proofs.Common.{ℕ, ◌≡◌, ◌∙◌, Bool, false, List, eq-eqb, ne_eqb}
 use Rattle.fields.specs.Field.{Field, front, tag, text}
 use Rattle.walking.specs.Walking.{peel}
 use Rattle.raises.specs.Raises.{is_zero}

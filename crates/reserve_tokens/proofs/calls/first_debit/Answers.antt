@@ -1,9 +1,5 @@
 -- None of the calls that was passed debits the amount.
-use Rattle.std.proofs.Common.{◌-◌, arith, rules, length}
-use Rattle.fields.specs.Field.{front}
-use Rattle.walking.specs.Walking.{is_debit}
-use Rattle.reserve_tokens.specs.Reserving.{with_amount}
-use Rattle.reserve_tokens.proofs.Called.{Picking, picking-all, picking-none, picking-found, picking-on}
+use Rattle.reserve_tokens.proofs.Called.{picking-all, picking-none, picking-found, picking-on}
 use Rattle.reserve_tokens.proofs.calls.first_debit.Goals as goal
 
 pub loop-i-init : goal.loop-i-init

@@ -1,5 +1,4 @@
 -- What has another amount fails, and of what has it the kind decides.
-use Rattle.std.proofs.Common.{rules}
 use Rattle.reserve_tokens.proofs.Called.{other-amount, by_kind}
 use Rattle.reserve_tokens.proofs.calls.is_crediting.Goals as goal
 

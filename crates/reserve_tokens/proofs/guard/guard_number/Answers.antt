@@ -1,5 +1,5 @@
 -- A guard's expression stands behind its head; only an Eq names a token, and the comparison's place is what is cut off before it.
-use Rattle.std.proofs.Common.{ℕ, ◌+◌, ◌-◌, ◌≤◌, ◌≡◌, sym, ap, ◌∙◌, Bool, true, false, not, List, arith, rules, eq-eqb, ne_eqb, length, drop, length-drop, drop-drop}
+use Rattle.std.proofs.Common.{ℕ, ◌+◌, ◌-◌, ◌≤◌, ◌≡◌, sym, ap, ◌∙◌, Bool, true, false, not, List, arith, eq-eqb, ne_eqb, length, drop, length-drop, drop-drop}
 use borrow.Author.Tests.{not-true, not-false}
 use Rattle.laws.proofs.Lists.{no-elements}
 use Rattle.laws.proofs.Slices.{tail_of}

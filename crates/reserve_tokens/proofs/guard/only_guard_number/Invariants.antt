@@ -1,10 +1,8 @@
 -- The token found so far and those of the guards ahead have the only one; a second leaves none.
-use Rattle.std.proofs.Common.{arith, rules, length, drop}
-use Rattle.laws.proofs.Told.{told_is}
+use Rattle.std.proofs.Common.{length, drop}
 use Rattle.fields.specs.Field.{front}
-use Rattle.fields.proofs.Rows.{from_less}
 use Rattle.reserve_tokens.specs.ReserveTokens.{guard_tokens, only}
-use Rattle.reserve_tokens.proofs.Guarding.{Guarding, guarding-all, guarding-end, guarding-second, guarding-on}
+use Rattle.reserve_tokens.proofs.Guarding.{Guarding}
 use Rattle.reserve_tokens.proofs.guard.only_guard_number.Given as goal
 
 abbrev pub invariant-loop-parts : goal.invariant-loop-parts

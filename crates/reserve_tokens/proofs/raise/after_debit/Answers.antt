@@ -1,5 +1,4 @@
 -- The map of the debit decides, and without a debit none is agreed on.
-use Rattle.std.proofs.Common.{rules}
 use Rattle.reserve_tokens.proofs.Reserving.{debit-barred, debit-paid}
 use Rattle.reserve_tokens.proofs.raise.after_debit.Goals as goal
 

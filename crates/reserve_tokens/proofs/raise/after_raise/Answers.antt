@@ -1,5 +1,4 @@
 -- For `p.amount` the guard decides, for any other raise the first debit of the amount.
-use Rattle.std.proofs.Common.{rules}
 use Rattle.reserve_tokens.proofs.Reserving.{unnamed_here, raise-comes-in, raise-debited}
 use Rattle.reserve_tokens.proofs.raise.after_raise.Goals as goal
 

@@ -1,5 +1,5 @@
 -- A token that bars the field leaves none that is agreed on, any other is the one.
-use Rattle.std.proofs.Common.{ℕ, ◌≡◌, Bool, true, false, List, rules}
+use Rattle.std.proofs.Common.{ℕ, ◌≡◌, Bool, true, false, List}
 use Rattle.tokens.specs.Numbers.{token_of}
 use Rattle.reserve_tokens.specs.declared.raise.Agreed.{Agreed}
 use Rattle.reserve_tokens.specs.Reserving.{bars}

@@ -1,5 +1,5 @@
 -- An amount with no backer has the empty name, of which it is known whether a parameter has it; a backer is looked for.
-use Rattle.std.proofs.Common.{ℕ, ◌≡◌, ◌∙◌, Bool, List, rules, length}
+use Rattle.std.proofs.Common.{ℕ, ◌≡◌, ◌∙◌, Bool, List, length}
 use Rattle.laws.specs.Lists.{any}
 use Rattle.laws.specs.Texts.{same_bytes}
 use Rattle.laws.proofs.Lists.{no-elements}

@@ -1,5 +1,5 @@
 -- A raise whose amount a call credits too has no token; else the number of the guard's token stands.
-use Rattle.std.proofs.Common.{ℕ, ◌≡◌, Bool, true, false, cond, rules}
+use Rattle.std.proofs.Common.{ℕ, ◌≡◌, Bool, true, false, cond}
 use Rattle.reserve_tokens.proofs.raise.inflow_number.Goals as goal
 
 module _ (b k : Bool) (e : b ≡ k) (guard : ℕ) where

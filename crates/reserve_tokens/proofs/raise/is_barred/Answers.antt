@@ -1,5 +1,4 @@
 -- The number found so far bars the field only where it stands for no token, and of any other the two tokens decide.
-use Rattle.std.proofs.Common.{rules}
 use Rattle.reserve_tokens.proofs.Held.{same_number, unknown-bars, number-bars}
 use Rattle.reserve_tokens.proofs.raise.is_barred.Goals as goal
 

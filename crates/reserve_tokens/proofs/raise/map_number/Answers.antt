@@ -1,5 +1,5 @@
 -- For the map that was looked up last the token found so far is its funding token; any other map is looked up.
-use Rattle.std.proofs.Common.{ℕ, ◌≡◌, sym, ◌∙◌, Bool, true, ◌&&◌, List, rules, leb-true, arith, leb, length, drop}
+use Rattle.std.proofs.Common.{ℕ, ◌≡◌, sym, ◌∙◌, Bool, true, ◌&&◌, List, leb-true, arith, leb, length, drop}
 use Rattle.laws.specs.Texts.{known, same_bytes}
 use Rattle.laws.proofs.Truths.{and_left, and_right}
 use Rattle.laws.proofs.Texts.{bytes-equal, is_known}

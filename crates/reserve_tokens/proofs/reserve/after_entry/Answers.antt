@@ -1,5 +1,4 @@
 -- The lent table has room for all calls of the entry.
-use Rattle.std.proofs.Common.{rules}
 use Rattle.fundings.proofs.Filling.{room-lent, calls-room, calls_count}
 use Rattle.reserve_tokens.proofs.Reserving.{entry_known}
 use Rattle.reserve_tokens.proofs.reserve.after_entry.Goals as goal

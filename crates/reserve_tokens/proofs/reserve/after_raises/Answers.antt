@@ -1,8 +1,6 @@
 -- Raise by raise, the token agreed on so far and those ahead have the one token of all; one that bars the field leaves none.
-use Rattle.std.proofs.Common.{rules, length, drop}
 use Rattle.laws.proofs.Told.{told_is}
-use Rattle.fields.specs.Field.{front}
-use Rattle.reserve_tokens.proofs.Reserving.{Raises, raises-all, raises-barred, raises-on, raises-done, ahead-less}
+use Rattle.reserve_tokens.proofs.Reserving.{raises-all, raises-barred, raises-on, raises-done, ahead-less}
 use Rattle.reserve_tokens.proofs.reserve.after_raises.Goals as goal
 
 pub loop-t-init : goal.loop-t-init

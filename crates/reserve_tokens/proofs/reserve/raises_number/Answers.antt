@@ -1,7 +1,6 @@
 -- Entry by entry, the token agreed on so far and those ahead have the one token of all; one that bars the field leaves none.
-use Rattle.std.proofs.Common.{rules, arith, length}
 use Rattle.laws.proofs.Told.{told_is}
-use Rattle.reserve_tokens.proofs.Reserving.{Entries, entries-all, entry_here, entry-barred, entries-on, entries-end, behind-less}
+use Rattle.reserve_tokens.proofs.Reserving.{entries-all, entry_here, entry-barred, entries-on, entries-end, behind-less}
 use Rattle.reserve_tokens.proofs.reserve.raises_number.Goals as goal
 
 pub loop-t-init : goal.loop-t-init

@@ -1,5 +1,5 @@
 -- Without a token that all raises agree on there is none, however the field starts; with one, the start decides.
-use Rattle.std.proofs.Common.{ℕ, ◌<◌, ◌≡◌, sym, ◌∙◌, Bool, true, false, not, List, rules}
+use Rattle.std.proofs.Common.{ℕ, ◌<◌, ◌≡◌, sym, ◌∙◌, Bool, true, false, not, List}
 use borrow.Author.Tests.{not-true, not-false}
 use Rattle.laws.proofs.Truths.{chosen}
 use Rattle.fields.specs.Field.{fields}

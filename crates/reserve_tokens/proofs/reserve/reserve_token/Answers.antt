@@ -1,5 +1,5 @@
 -- The number stands for the token.
-use Rattle.std.proofs.Common.{◌≡◌, ◌∙◌, List, ℕ, rules}
+use Rattle.std.proofs.Common.{◌≡◌, ◌∙◌, List, ℕ}
 use Rattle.fields.specs.Field.{fields}
 use Rattle.tokens.specs.Numbers.{token_of}
 use Rattle.reserve_tokens.specs.ReserveTokens.{reserve_token}

@@ -1,6 +1,6 @@
 -- The three tests, of which the first that fails decides, and the last tells the number too. Where the amount is asked for, the
 -- lowerings of the entry decide the second.
-use Rattle.std.proofs.Common.{ℕ, ◌≡◌, sym, ◌∙◌, Bool, true, false, not, List, rules}
+use Rattle.std.proofs.Common.{ℕ, ◌≡◌, sym, ◌∙◌, Bool, true, false, not, List}
 use borrow.Author.Tests.{not-true, not-false}
 use Rattle.fields.specs.Table.{fields_at}
 use Rattle.laws.specs.Lists.{any}

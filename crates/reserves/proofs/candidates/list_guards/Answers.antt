@@ -8,7 +8,6 @@ use Rattle.fields.proofs.Reading.{front-none, after_less}
 use Rattle.fields.proofs.Tables.{listed-none}
 use Rattle.fields.proofs.Listing.{parts-shorter, along-fits, Listing, listing-all, listing-on, listing-done}
 use Rattle.walking.specs.Table.{placed_at}
-use Rattle.guards.specs.Asked.{asked_amounts}
 use Rattle.reserves.specs.Candidates.{LoweringsOf, candidate_numbers}
 use Rattle.reserves.proofs.Counting.{many_of, candidate-row, candidate-fits, candidate-noted}
 use Rattle.reserves.proofs.candidates.list_guards.Goals as goal

@@ -1,5 +1,4 @@
 -- Without lowerings no guard counts, and the scratch table has room for all.
-use Rattle.std.proofs.Common.{rules}
 use Rattle.guards.proofs.Lowerings.{lowerings-room, lowerings-count}
 use Rattle.reserves.proofs.Unlowered.{no-candidates, lowerings-listed}
 use Rattle.reserves.proofs.candidates.list_lowered_guards.Goals as goal

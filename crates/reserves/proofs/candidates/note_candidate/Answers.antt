@@ -1,5 +1,5 @@
 -- Of a guard that counts two numbers are written, and of any other part none.
-use Rattle.std.proofs.Common.{ℕ, ◌+◌, ◌-◌, ◌%◌, ◌^◌, ◌<◌, ◌≡◌, true, cond, List, [], ◌∷◌, arith, rules, eq-eqb, ne_eqb}
+use Rattle.std.proofs.Common.{ℕ, ◌+◌, ◌-◌, ◌%◌, ◌^◌, ◌<◌, ◌≡◌, true, cond, List, [], ◌∷◌, arith, eq-eqb, ne_eqb}
 use Rattle.fields.specs.Table.{Listed}
 use Rattle.fields.proofs.Tables.{listed-none, listed_then}
 use Rattle.reserves.specs.Candidates.{pair_of, PairFits}

@@ -1,5 +1,5 @@
 -- Only a guard has a number.
-use Rattle.std.proofs.Common.{ℕ, ◌≡◌, ◌∙◌, List, rules, eq-eqb, ne_eqb}
+use Rattle.std.proofs.Common.{ℕ, ◌≡◌, ◌∙◌, List, eq-eqb, ne_eqb}
 use Rattle.fields.specs.Field.{Field, Fields, front, tag, part}
 use Rattle.reserves.specs.Candidates.{counted_number, part_number}
 use Rattle.reserves.proofs.candidates.part_number.Goals as goal

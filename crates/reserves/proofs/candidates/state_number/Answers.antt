@@ -1,13 +1,7 @@
 -- Those that were passed have another name, and so are counted.
-use Rattle.std.proofs.Common.{ℕ, suc, ◌+◌, ◌^◌, ◌≤◌, ◌<◌, ◌≡◌, sym, ◌∙◌, Bool, true, false, cond, List, ◌∷◌, map, arith, rules, leb-true, w64, Fits, length}
-use Rattle.laws.specs.Lists.{any, position}
-use Rattle.laws.specs.Texts.{same_bytes}
+use Rattle.std.proofs.Common.{rules}
 use Rattle.laws.proofs.Told.{told}
-use Rattle.tags.specs.Tag.{State}
-use Rattle.fields.specs.Field.{fields, length_of, whole, after, front, from, fields_from}
-use Rattle.fields.proofs.Rows.{ahead, from_row, from_less, from-shorter}
-use Rattle.model.specs.Model.{name_of, state_names}
-use Rattle.reserves.specs.Candidates.{state_index, state_number}
+use Rattle.fields.proofs.Rows.{from_less}
 use Rattle.reserves.proofs.candidates.state_number.Invariants.{none_passed, none_left, found, fits, one_more}
 use Rattle.reserves.proofs.candidates.state_number.Goals as goal
 

@@ -1,8 +1,7 @@
 -- Those that were passed have another name, and so are counted.
-use Rattle.std.proofs.Common.{ℕ, suc, ◌+◌, ◌^◌, ◌≤◌, ◌<◌, ◌≡◌, sym, ◌∙◌, Bool, true, false, cond, List, ◌∷◌, map, arith, rules, leb-true, w64, Fits, length}
+use Rattle.std.proofs.Common.{ℕ, suc, ◌+◌, ◌^◌, ◌≤◌, ◌<◌, ◌≡◌, sym, ◌∙◌, Bool, true, false, cond, List, ◌∷◌, map, arith, leb-true, w64, Fits, length}
 use Rattle.laws.specs.Lists.{any, position}
 use Rattle.laws.specs.Texts.{same_bytes}
-use Rattle.laws.proofs.Told.{told}
 use Rattle.tags.specs.Tag.{State}
 use Rattle.fields.specs.Field.{fields, length_of, whole, after, front, from, fields_from}
 use Rattle.fields.proofs.Rows.{ahead, from_row, from_less, from-shorter}

@@ -1,5 +1,5 @@
 -- A guard's expression is its first part.
-use Rattle.std.proofs.Common.{◌≡◌, List, ℕ, rules, drop}
+use Rattle.std.proofs.Common.{◌≡◌, List, ℕ, drop}
 use Rattle.fields.specs.Field.{front, part}
 use Rattle.guards.specs.Guards.{guarded_amount}
 use Rattle.reserves.specs.Covers.{amount_at}

@@ -1,5 +1,5 @@
 -- A guard of another amount covers nothing, and of one that bounds it the state field decides.
-use Rattle.std.proofs.Common.{ℕ, ◌+◌, ◌≡◌, ◌∙◌, Bool, true, false, not, ◌&&◌, List, rules, get_or}
+use Rattle.std.proofs.Common.{ℕ, ◌+◌, ◌≡◌, ◌∙◌, Bool, true, false, not, ◌&&◌, List, get_or}
 use borrow.Author.Tests.{not-true, not-false}
 use Rattle.fields.specs.Field.{Field, front}
 use Rattle.equality.specs.Equality.{expr_eq}

@@ -1,5 +1,5 @@
 -- An amount that does not contain what comes in is not covered.
-use Rattle.std.proofs.Common.{ℕ, ◌≡◌, ◌∙◌, Bool, true, false, cond, not, List, rules, drop}
+use Rattle.std.proofs.Common.{ℕ, ◌≡◌, ◌∙◌, Bool, true, false, cond, not, List, drop}
 use borrow.Author.Tests.{not-true, not-false}
 use Rattle.fields.specs.Field.{Field, front}
 use Rattle.guards.specs.Guards.{contains_inflow}

@@ -1,7 +1,5 @@
 -- The candidates that were passed do not cover, so those that are left decide.
-use Rattle.std.proofs.Common.{◌-◌, arith, rules, length}
-use Rattle.fields.specs.Field.{front}
-use Rattle.reserves.proofs.Pairs.{Covering, covering-all, covering-none, covering-found, covering-on}
+use Rattle.reserves.proofs.Pairs.{covering-all, covering-none, covering-found, covering-on}
 use Rattle.reserves.proofs.covering.first_covering.Goals as goal
 
 pub loop-i-init : goal.loop-i-init

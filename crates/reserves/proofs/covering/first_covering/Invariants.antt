@@ -1,7 +1,7 @@
 -- The candidates that were passed do not cover, so those that are left decide.
-use Rattle.std.proofs.Common.{◌-◌, arith, rules, length}
+use Rattle.std.proofs.Common.{◌-◌, length}
 use Rattle.fields.specs.Field.{front}
-use Rattle.reserves.proofs.Pairs.{Covering, covering-all, covering-none, covering-found, covering-on}
+use Rattle.reserves.proofs.Pairs.{Covering}
 use Rattle.reserves.proofs.covering.first_covering.Given as goal
 
 abbrev pub invariant-loop-i : goal.invariant-loop-i

@@ -1,17 +1,15 @@
 -- A guard whose amount differs is passed over.
-use Rattle.std.proofs.Common.{◌-◌, arith, rules, length}
-use Rattle.fields.specs.Field.{front}
-use Rattle.reserves.proofs.Pairs.{Skipping, skipping-none, skipping-here, skipping-on, skipping-all}
+use Rattle.reserves.proofs.Pairs.{skipping-none, skipping-here, skipping-on, skipping-all}
 use Rattle.reserves.proofs.covering.first_equal.Goals as goal
 
 pub loop-i-init : goal.loop-i-init
 loop-i-init c = search skipping-none
 
-pub returns-then-expr_eq : goal.returns-then-expr_eq
-returns-then-expr_eq c = (search skipping-here, search rules)
+pub returns-then-expr_eq-clause-reads : goal.returns-then-expr_eq-clause-reads
+returns-then-expr_eq-clause-reads c = search skipping-here
 
 pub loop-i-preserved : goal.loop-i-preserved
 loop-i-preserved c = search skipping-on
 
-pub returns : goal.returns
-returns c = (search skipping-all, search rules)
+pub returns-clause-reads : goal.returns-clause-reads
+returns-clause-reads c = search skipping-all

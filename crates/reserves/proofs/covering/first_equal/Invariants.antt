@@ -1,7 +1,7 @@
 -- A guard whose amount differs is passed over.
-use Rattle.std.proofs.Common.{◌-◌, arith, rules, length}
+use Rattle.std.proofs.Common.{◌-◌, length}
 use Rattle.fields.specs.Field.{front}
-use Rattle.reserves.proofs.Pairs.{Skipping, skipping-none, skipping-here, skipping-on, skipping-all}
+use Rattle.reserves.proofs.Pairs.{Skipping}
 use Rattle.reserves.proofs.covering.first_equal.Given as goal
 
 abbrev pub invariant-loop-i : goal.invariant-loop-i

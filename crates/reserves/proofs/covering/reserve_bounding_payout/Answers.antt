@@ -1,5 +1,4 @@
 -- The candidates from the first of an equal amount on decide.
-use Rattle.std.proofs.Common.{rules}
 use Rattle.reserves.proofs.Searching.{none_equal, first-covers}
 use Rattle.reserves.proofs.covering.reserve_bounding_payout.Goals as goal
 

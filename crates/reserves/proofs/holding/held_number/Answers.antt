@@ -1,5 +1,4 @@
 -- What is remembered of the field is right.
-use Rattle.std.proofs.Common.{rules}
 use Rattle.reserves.proofs.Remembering.{remembered-number}
 use Rattle.reserves.proofs.holding.held_number.Goals as goal
 

@@ -1,5 +1,4 @@
 -- The number's token is compared with the one that is asked for.
-use Rattle.std.proofs.Common.{rules}
 use Rattle.reserves.proofs.Remembering.{by_number}
 use Rattle.reserves.proofs.holding.holds_token.Goals as goal
 

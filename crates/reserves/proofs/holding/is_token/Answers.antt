@@ -1,5 +1,5 @@
 -- A token is known if it has bytes.
-use Rattle.std.proofs.Common.{ℕ, ◌≡◌, Bool, false, List, length, rules}
+use Rattle.std.proofs.Common.{ℕ, ◌≡◌, Bool, false, List, length}
 use Rattle.laws.specs.Texts.{same_bytes}
 use Rattle.laws.proofs.Texts.{unknown, is_known}
 use Rattle.reserves.specs.Holding.{is_token}

@@ -1,5 +1,4 @@
 -- Past the last state field nothing is written.
-use Rattle.std.proofs.Common.{rules}
 use Rattle.reserves.proofs.Remembering.{set-in, set-none}
 use Rattle.reserves.proofs.holding.remember.Goals as goal
 

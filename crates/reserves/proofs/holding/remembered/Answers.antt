@@ -1,5 +1,4 @@
 -- Past the last state field nothing is remembered.
-use Rattle.std.proofs.Common.{rules}
 use Rattle.reserves.proofs.Remembering.{told_in, told-out}
 use Rattle.reserves.proofs.holding.remembered.Goals as goal
 

@@ -1,5 +1,5 @@
 -- The name of the n-th state field is the n-th of the names.
-use Rattle.std.proofs.Common.{ℕ, zero, suc, ◌≡◌, refl, ap, ◌∙◌, List, [], ◌∷◌, map, get_or, rules}
+use Rattle.std.proofs.Common.{ℕ, zero, suc, ◌≡◌, refl, ap, ◌∙◌, List, [], ◌∷◌, map, get_or}
 use Rattle.tags.specs.Tag.{State}
 use Rattle.fields.specs.Field.{Field, fields, front, nth, nothing, fields_from, from_nth}
 use Rattle.fields.proofs.Rows.{nth-of-row}

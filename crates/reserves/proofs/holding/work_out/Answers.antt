@@ -1,5 +1,4 @@
 -- The number that is written is that of the field's token, and the others are as they were.
-use Rattle.std.proofs.Common.{rules}
 use Rattle.reserves.proofs.Remembering.{worked-out, still-facts}
 use Rattle.reserves.proofs.holding.work_out.Goals as goal
 

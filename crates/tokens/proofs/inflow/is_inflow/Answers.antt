@@ -1,5 +1,5 @@
 -- The p of `p.amount` is looked for among the asset parameters.
-use Rattle.std.proofs.Common.{◌≡◌, Bool, List, ℕ, rules}
+use Rattle.std.proofs.Common.{◌≡◌, Bool, List, ℕ}
 use Rattle.laws.specs.Lists.{any}
 use Rattle.laws.specs.Texts.{same_bytes}
 use Rattle.fields.specs.Field.{Field}

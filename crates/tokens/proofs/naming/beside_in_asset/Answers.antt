@@ -1,5 +1,5 @@
 -- In-asset on the left names what is on the right, else in-asset on the right names what is on the left.
-use Rattle.std.proofs.Common.{ℕ, ◌≡◌, ap, ◌∙◌, List, [], rules, eq-eqb, ne_eqb}
+use Rattle.std.proofs.Common.{ℕ, ◌≡◌, ap, ◌∙◌, List, [], eq-eqb, ne_eqb}
 use Rattle.fields.specs.Field.{Field, front, tag, part}
 use Rattle.walking.specs.Walking.{peel, ident}
 use Rattle.tokens.specs.Tokens.{beside_in_asset}

@@ -1,5 +1,5 @@
 -- The number is read back as a condition, whose operator decides.
-use Rattle.std.proofs.Common.{ℕ, ◌%◌, ◌≡◌, ◌∙◌, cond, List, [], rules, eq-eqb, ne_eqb, leb, drop}
+use Rattle.std.proofs.Common.{ℕ, ◌%◌, ◌≡◌, ◌∙◌, cond, List, [], eq-eqb, ne_eqb, leb, drop}
 use Rattle.fields.specs.Field.{front, tag}
 use Rattle.conditions.specs.Conditions.{opposite, operator}
 use Rattle.conditions.specs.Table.{condition_at}

@@ -1,6 +1,5 @@
 -- A condition that names no token has the number 0.
 use Rattle.tokens.proofs.Numbers.{number-none, number-some}
-use Rattle.std.proofs.Common.{rules}
 use Rattle.tokens.proofs.number.condition_number.Goals as goal
 
 pub returns-then-token_at-eq0 : goal.returns-then-token_at-eq0

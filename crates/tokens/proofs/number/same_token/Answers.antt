@@ -1,5 +1,5 @@
 -- The tokens of the two are compared byte by byte.
-use Rattle.std.proofs.Common.{◌≡◌, Bool, List, ℕ, rules}
+use Rattle.std.proofs.Common.{◌≡◌, Bool, List, ℕ}
 use Rattle.laws.specs.Texts.{same_bytes}
 use Rattle.tokens.specs.Numbers.{token_of}
 use Rattle.tokens.proofs.number.same_token.Goals as goal

@@ -1,8 +1,5 @@
 -- What was joined so far and the conditions that are left have the number of all.
-use Rattle.std.proofs.Common.{rules, arith, ◌-◌}
-use Rattle.walking.specs.Table.{placed_at}
-use Rattle.tokens.specs.Numbers.{tokens_number}
-use Rattle.tokens.proofs.Numbers.{Joining, mark_number, joining-all, joining-on, joining-done}
+use Rattle.tokens.proofs.Numbers.{joining-all, joining-on, joining-done}
 use Rattle.tokens.proofs.number.tokens_number_among.Goals as goal
 
 pub loop-i-init : goal.loop-i-init

@@ -1,8 +1,8 @@
 -- What was joined so far and the conditions that are left have the number of all.
-use Rattle.std.proofs.Common.{rules, arith, ◌-◌}
+use Rattle.std.proofs.Common.{◌-◌}
 use Rattle.walking.specs.Table.{placed_at}
 use Rattle.tokens.specs.Numbers.{tokens_number}
-use Rattle.tokens.proofs.Numbers.{Joining, mark_number, joining-all, joining-on, joining-done}
+use Rattle.tokens.proofs.Numbers.{Joining, mark_number}
 use Rattle.tokens.proofs.number.tokens_number_among.Given as goal
 
 abbrev pub invariant-loop-i : goal.invariant-loop-i

@@ -1,5 +1,4 @@
 -- An unknown token differs from none.
-use Rattle.std.proofs.Common.{rules}
 use Rattle.tokens.proofs.Agreeing.{first-unknown, second-unknown, both-known}
 use Rattle.tokens.proofs.set.tokens_differ.Goals as goal
 

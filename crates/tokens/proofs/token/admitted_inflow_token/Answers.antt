@@ -1,7 +1,6 @@
 -- The number of what the entry names stands for the one token, which stands where the definition says.
 use Rattle.tokens.proofs.Numbers.{number-token}
 use Rattle.tokens.proofs.Shown.{admitted-there}
-use Rattle.std.proofs.Common.{rules}
 use Rattle.tokens.proofs.token.admitted_inflow_token.Goals as goal
 
 pub returns-clause-reads : goal.returns-clause-reads

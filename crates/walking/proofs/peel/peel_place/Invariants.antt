@@ -1,5 +1,6 @@
 -- t is the inside of the wrappers passed so far, a part of s that starts at the place: peeling it is peeling s.
-use Rattle.std.proofs.Common.{◌≡◌, refl, sym, ap, ◌∙◌, Bool, true, false, not, cond, List, [], ◌++◌, append-nil, append_assoc, ℕ, ◌+◌, ◌-◌, ◌^◌, ◌≤◌, ◌<◌, min, arith, leb-true, w64, Fits, length, take, drop, length-take, length-drop, take-append-drop, drop-drop}
+use Rattle.std.proofs.Common.{◌≡◌, refl, sym, ap, ◌∙◌, Bool, true, false, not, cond, List, [], ◌++◌, append-nil, append_assoc, ℕ, ◌+◌, ◌-◌, ◌^◌, ◌≤◌, ◌<◌, min, arith, leb-true, w64, Fits}
+use Rattle.std.proofs.Common.{length, take, drop, length-take, length-drop, take-append-drop, drop-drop}
 use borrow.Author.Tests.{not-true, not-false}
 use lib.Seq.{take-append_seam, drop-append-le, drop-length}
 use Rattle.tags.specs.Tag.{is_wrapper}

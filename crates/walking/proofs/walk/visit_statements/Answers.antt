@@ -1,11 +1,7 @@
 -- Whoever lists what is left of the row has listed all.
-use Rattle.std.proofs.Common.{flat_map, arith, rules, length}
 use Rattle.laws.proofs.Told.{told}
-use Rattle.fields.specs.Field.{placed}
 use Rattle.fields.proofs.Reading.{after_less}
-use Rattle.walking.specs.Walking.{stmt_exprs}
-use Rattle.walking.specs.Table.{places_of}
-use Rattle.fields.proofs.Listing.{along-fits, Listing, listing-all, listing-on, listing-done}
+use Rattle.fields.proofs.Listing.{along-fits, listing-all, listing-on, listing-done}
 use Rattle.walking.proofs.Visits.{statements}
 use Rattle.walking.proofs.walk.visit_statements.Goals as goal
 

@@ -1,12 +1,10 @@
 -- Whoever lists what is left of the row has listed all.
-use Rattle.std.proofs.Common.{flat_map, arith, rules, length}
-use Rattle.laws.proofs.Told.{told}
+use Rattle.std.proofs.Common.{length}
+use mathlib.Core.List.{flat_map}
 use Rattle.fields.specs.Field.{placed}
-use Rattle.fields.proofs.Reading.{after_less}
 use Rattle.walking.specs.Walking.{stmt_exprs}
 use Rattle.walking.specs.Table.{places_of}
-use Rattle.fields.proofs.Listing.{along-fits, Listing, listing-all, listing-on, listing-done}
-use Rattle.walking.proofs.Visits.{statements}
+use Rattle.fields.proofs.Listing.{Listing}
 use Rattle.walking.proofs.walk.visit_statements.Given as goal
 
 abbrev pub invariant-loop-t : goal.invariant-loop-t
