@@ -1,5 +1,5 @@
 /* SPDX-License-Identifier: Apache-2.0 OR MIT */
-/* The payout checker for Quanta contracts, proved. Make the library with `rt staticlib export`: target/staticlib/libexport.a.
+/* The payout checker for Quanta contracts, proved. `rt lib` in crates/export makes the library: crates/export/out/libexport.a.
    A slice is a pointer and then a length; where the length is 0 the pointer is not read, and must not be null all the same.
    No function keeps what it is lent. Any bytes may be given. docs/USING.md says what each answer means. */
 #ifndef ZEVDRAK_H

@@ -3,9 +3,9 @@
 
 use std::path::{Path, PathBuf};
 
-/// Where `rt staticlib export` puts it, seen from this member, unless
+/// Where `rt lib` in crates/export puts it, seen from this member, unless
 /// ZEVDRAK_LIBRARY says otherwise.
-const DEFAULT: &str = "../../target/staticlib";
+const DEFAULT: &str = "../../crates/export/out";
 
 fn main() {
     println!("cargo:rerun-if-env-changed=ZEVDRAK_LIBRARY");
@@ -17,7 +17,7 @@ fn main() {
     println!("cargo:rerun-if-changed={}", archive.display());
     if !archive.exists() {
         eprintln!("The static library {} was not found.", archive.display());
-        eprintln!("Make it with `rt staticlib export` in the folder above this workspace, or set ZEVDRAK_LIBRARY to its folder.");
+        eprintln!("Make it with `rt lib` in the repository's folder crates/export, or set ZEVDRAK_LIBRARY to its folder.");
         std::process::exit(1);
     }
     println!("cargo:rustc-link-search=native={}", folder.display());
