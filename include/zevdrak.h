@@ -14,7 +14,8 @@
 #define ZEVDRAK_RECORDS 12608
 #define ZEVDRAK_LISTING 65536
 
-/* What a verdict is, and its two numbers. The spare of an accepted entry is how many backings it has beyond its payouts. */
+/* What a verdict is, and its two numbers. The spare of an accepted entry is how many backings it has beyond its
+   payouts, or 0. */
 #define ZEVDRAK_ACCEPTED 0 /* first: the number of payouts, which have 3 bytes of covers each; second: its spare */
 #define ZEVDRAK_REJECTED 1 /* first: the payout that has no cover, counted from 0; second: the reason, 1 to 6 */
 #define ZEVDRAK_REFUSED 2  /* first: the question that said no, 1 to 12; second: the place in the file */

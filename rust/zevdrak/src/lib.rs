@@ -42,7 +42,7 @@ pub struct Refusal {
 pub enum Verdict {
     /// Each payout has a cover of its own, and 3 bytes for each are written
     /// into the lent covers. The spare is how many backings the entry has
-    /// beyond its payouts.
+    /// beyond its payouts, or 0.
     Accepted { payouts: usize, spare: usize },
     /// The payout of this number, counted from 0, has none. Nothing is written.
     Rejected { payout: usize, reason: Reason },
