@@ -130,7 +130,7 @@ never =
     ∷ (wrapping (checked []) ++ n)
     ∷ (([] minus []) ++ n)
     ∷ (([] over []) ++ n)
-    ∷ (write tag.Div (tag.Identifier ∷ 0 ∷ 2 ∷ 0x6_e ∷ []) ++ n)
+    ∷ (write tag.Div (tag.Identifier ∷ 0 ∷ 2 ∷ 0x6E ∷ []) ++ n)
     ∷ (tag.Div ∷ 0 ∷ 9 ∷ n)
     ∷ []
 

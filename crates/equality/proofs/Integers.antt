@@ -10,19 +10,19 @@ use Rattle.laws.proofs.Texts.{bytes-symmetric}
 use Rattle.laws.proofs.Truths.{and_left, and_right}
 use Rattle.equality.specs.Equality.{is_underscore, strip}
 
-strip-underscore : (x : ℕ) (l : List ℕ) → x ≡ 0x5_f → strip (x ∷ l) ≡ strip l
+strip-underscore : (x : ℕ) (l : List ℕ) → x ≡ 0x5F → strip (x ∷ l) ≡ strip l
 unfolding strip filter
-strip-underscore x l e = rw (eq-eqb x 0x5_f e)
+strip-underscore x l e = rw (eq-eqb x 0x5F e)
 
-strip-other : (x : ℕ) (l : List ℕ) → (x ≡ 0x5_f → ⊥) → strip (x ∷ l) ≡ x ∷ strip l
+strip-other : (x : ℕ) (l : List ℕ) → (x ≡ 0x5F → ⊥) → strip (x ∷ l) ≡ x ∷ strip l
 unfolding strip filter
-strip-other x l n = rw (ne_eqb x 0x5_f n)
+strip-other x l n = rw (ne_eqb x 0x5F n)
 
 -- nothing is left of a text exactly where it is underscores only
 strip-none : (l : List ℕ) → same_bytes [] (strip l) ≡ all is_underscore l
 unfolding strip filter same_bytes all
 strip-none [] = refl
-strip-none (x ∷ l) = go (eqb x 0x5_f) (strip-none l)
+strip-none (x ∷ l) = go (eqb x 0x5F) (strip-none l)
   where
     go : (k : Bool) → same_bytes [] (strip l) ≡ all is_underscore l →
         same_bytes [] (cond (not k) (x ∷ strip l) (strip l)) ≡ k && all is_underscore l
@@ -31,7 +31,7 @@ strip-none (x ∷ l) = go (eqb x 0x5_f) (strip-none l)
 
 strip-pair : (x : ℕ) (l m : List ℕ) → same_bytes (strip (x ∷ l)) (strip (x ∷ m)) ≡ same_bytes (strip l) (strip m)
 unfolding strip filter same_bytes
-strip-pair x l m = go (eqb x 0x5_f)
+strip-pair x l m = go (eqb x 0x5F)
   where
     go : (k : Bool) →
         same_bytes (cond (not k) (x ∷ strip l) (strip l)) (cond (not k) (x ∷ strip m) (strip m)) ≡ same_bytes (strip l) (strip m)
@@ -86,13 +86,13 @@ module _ (a b : List ℕ) (i j : ℕ) where
       pub stripping-pair : get_or a i 0 ≡ get_or b j 0 → Stripping a b (i + 1) (j + 1)
       stripping-pair e = record { left = sym (strip-pair (get_or b j 0) (drop (i + 1) a) (drop (j + 1) b)) ∙ rw (split-left, split-right, e) at v.left }
 
-      pub stripping-left : get_or a i 0 ≡ 0x5_f → Stripping a b (i + 1) j
+      pub stripping-left : get_or a i 0 ≡ 0x5F → Stripping a b (i + 1) j
       stripping-left e = record { left = rw (split-left, strip-underscore (get_or a i 0) (drop (i + 1) a) e) at v.left }
 
-      pub stripping-right : get_or b j 0 ≡ 0x5_f → Stripping a b i (j + 1)
+      pub stripping-right : get_or b j 0 ≡ 0x5F → Stripping a b i (j + 1)
       stripping-right e = record { left = rw (split-right, strip-underscore (get_or b j 0) (drop (j + 1) b) e) at v.left }
 
-      pub stripping-differ : (get_or a i 0 ≡ get_or b j 0 → ⊥) → (get_or a i 0 ≡ 0x5_f → ⊥) → (get_or b j 0 ≡ 0x5_f → ⊥) →
+      pub stripping-differ : (get_or a i 0 ≡ get_or b j 0 → ⊥) → (get_or a i 0 ≡ 0x5F → ⊥) → (get_or b j 0 ≡ 0x5F → ⊥) →
           false ≡ same_bytes (strip a) (strip b)
       unfolding same_bytes
       stripping-differ n p q =

@@ -23,28 +23,28 @@ abbrev passes : ℕ → Bool
 passes t = not (equals_nothing t) && (composite t || in_expression t)
 
 -- computed at each tag up to the last, 4D
-low-tags : (t : ℕ) → t < 0x4_e → composite t || same_text t [] [] ≡ passes t
+low-tags : (t : ℕ) → t < 0x4E → composite t || same_text t [] [] ≡ passes t
 unfolding composite same_text strip filter same_bytes equals_nothing in_expression is_expression
-low-tags t h = same_truth _ _ (below (λ t. beq (composite t || same_text t [] []) (passes t)) 0x4_e refl t h)
+low-tags t h = same_truth _ _ (below (λ t. beq (composite t || same_text t [] []) (passes t)) 0x4E refl t h)
 
 -- behind it a tag is of no class
-module _ (t : ℕ) (h : 0x4_d < t) where
-  past : (m n : ℕ) → T (leb n 0x4_d) → leb m t && leb t n ≡ false
-  past m n l = rw (lt-leb t n (omega (arith, leb→le n 0x4_d l))) (and-false (leb m t))
+module _ (t : ℕ) (h : 0x4D < t) where
+  past : (m n : ℕ) → T (leb n 0x4D) → leb m t && leb t n ≡ false
+  past m n l = rw (lt-leb t n (omega (arith, leb→le n 0x4D l))) (and-false (leb m t))
 
-  other : (m : ℕ) → T (leb m 0x4_d) → eqb t m ≡ false
-  other m l = ne_eqb t m (λ e. omega (arith, leb→le m 0x4_d l))
+  other : (m : ℕ) → T (leb m 0x4D) → eqb t m ≡ false
+  other m l = ne_eqb t m (λ e. omega (arith, leb→le m 0x4D l))
 
   high-tags : composite t || same_text t [] [] ≡ passes t
   unfolding composite same_text strip filter same_bytes equals_nothing in_expression is_expression
   high-tags = simp (past, other, tt {0})
 
 tag-itself : (t : ℕ) (x : List ℕ) → composite t || same_text t x x ≡ passes t
-tag-itself t x = rw (same-with-none t x) (go (leb t 0x4_d) refl)
+tag-itself t x = rw (same-with-none t x) (go (leb t 0x4D) refl)
   where
-    go : (k : Bool) → leb t 0x4_d ≡ k → composite t || same_text t [] [] ≡ passes t
-    go true h = low-tags t (omega (arith, leb-true t 0x4_d h))
-    go false h = high-tags t (leb-false t 0x4_d h)
+    go : (k : Bool) → leb t 0x4D ≡ k → composite t || same_text t [] [] ≡ passes t
+    go true h = low-tags t (omega (arith, leb-true t 0x4D h))
+    go false h = high-tags t (leb-false t 0x4D h)
 
 mutual
   unfolding expr_eq parts_eq every_tag every_tags

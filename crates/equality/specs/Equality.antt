@@ -8,7 +8,7 @@ use Rattle.fields.specs.Field.Field.{field}
 use Rattle.fields.specs.Field.Fields.{end, next}
 
 abbrev pub is_underscore : ℕ → Bool
-is_underscore c = eqb c 0x5_f
+is_underscore c = eqb c 0x5F
 
 -- a text without its underscores
 unfoldable pub strip : List ℕ → List ℕ

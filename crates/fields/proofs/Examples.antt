@@ -10,12 +10,12 @@ identifier : List ℕ
 identifier = 0x33 ∷ 0 ∷ 1 ∷ 0x61 ∷ []
 
 member : List ℕ
-member = 0x3_a ∷ 0 ∷ 13 ∷ identifier ++ (0x20 ∷ 0 ∷ 6 ∷ 0x61 ∷ 0x6_d ∷ 0x6_f ∷ 0x75 ∷ 0x6_e ∷ 0x74 ∷ [])
+member = 0x3A ∷ 0 ∷ 13 ∷ identifier ++ (0x20 ∷ 0 ∷ 6 ∷ 0x61 ∷ 0x6D ∷ 0x6F ∷ 0x75 ∷ 0x6E ∷ 0x74 ∷ [])
 
 name : Field
-name = field 0x20 (0x61 ∷ 0x6_d ∷ 0x6_f ∷ 0x75 ∷ 0x6_e ∷ 0x74 ∷ []) (end [])
+name = field 0x20 (0x61 ∷ 0x6D ∷ 0x6F ∷ 0x75 ∷ 0x6E ∷ 0x74 ∷ []) (end [])
 
-nested : fields member ≡ next (field 0x3_a [] (next (field 0x33 (0x61 ∷ []) (end [])) (next name (end [])))) (end [])
+nested : fields member ≡ next (field 0x3A [] (next (field 0x33 (0x61 ∷ []) (end [])) (next name (end [])))) (end [])
 unfolding fields fields_to composite member identifier name
 nested = refl
 
@@ -25,11 +25,11 @@ unfolding fields fields_to
 cut-heads = refl
 
 -- a length that ends exactly with its encloser, and one past it
-ends_with : front (0x3_c ∷ 0 ∷ 4 ∷ identifier) ≡ field 0x3_c [] (next (field 0x33 (0x61 ∷ []) (end [])) (end []))
+ends_with : front (0x3C ∷ 0 ∷ 4 ∷ identifier) ≡ field 0x3C [] (next (field 0x33 (0x61 ∷ []) (end [])) (end []))
 unfolding fields fields_to nth composite identifier
 ends_with = refl
 
-ends-past : fields (0x3_c ∷ 0 ∷ 4 ∷ 0x33 ∷ 0 ∷ 2 ∷ 0x61 ∷ []) ≡ next (field 0x3_c [] (end (0x33 ∷ 0 ∷ 2 ∷ 0x61 ∷ []))) (end [])
+ends-past : fields (0x3C ∷ 0 ∷ 4 ∷ 0x33 ∷ 0 ∷ 2 ∷ 0x61 ∷ []) ≡ next (field 0x3C [] (end (0x33 ∷ 0 ∷ 2 ∷ 0x61 ∷ []))) (end [])
 unfolding fields fields_to composite
 ends-past = refl
 

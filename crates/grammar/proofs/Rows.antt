@@ -25,24 +25,24 @@ module _ (t : ℕ) (l : t < 256) (r : List ℕ) where
     unfolding up_to_zero same_bytes is_expression is_statement is_assign is_clause grammar slots_in
     binary h q = q ∙ row_by (λ t. is_expression t && leb 0x40 t) (7 ∷ 7 ∷ []) refl t l (rw (e, le-leb 0x40 t h))
 
-    pub unary : t < 0x40 → (t ≡ 0x3_b → ⊥) → (t ≡ 0x3_a → ⊥) → 0x38 ≤ t → Row 7 0 0 0 → r ≡ slots_of t
+    pub unary : t < 0x40 → (t ≡ 0x3B → ⊥) → (t ≡ 0x3A → ⊥) → 0x38 ≤ t → Row 7 0 0 0 → r ≡ slots_of t
     unfolding up_to_zero same_bytes is_expression is_statement is_assign is_clause grammar slots_in
     unary h m n k q =
         q
-        ∙ row_by (λ t. is_expression t && not (leb 0x40 t) && not (eqb t 0x3_b) && not (eqb t 0x3_a) && leb 0x38 t) (7 ∷ []) refl t l
-        (rw (e, lt-leb 0x40 t h, ne_eqb t 0x3_b m, ne_eqb t 0x3_a n, le-leb 0x38 t k))
+        ∙ row_by (λ t. is_expression t && not (leb 0x40 t) && not (eqb t 0x3B) && not (eqb t 0x3A) && leb 0x38 t) (7 ∷ []) refl t l
+        (rw (e, lt-leb 0x40 t h, ne_eqb t 0x3B m, ne_eqb t 0x3A n, le-leb 0x38 t k))
 
     pub leaf : t < 0x38 → Row 0 0 0 0 → r ≡ slots_of t
     unfolding up_to_zero same_bytes is_expression is_statement is_assign is_clause grammar slots_in
     leaf h q = q ∙ row_by (λ t. is_expression t && not (leb 0x38 t)) ([]) refl t l (rw (e, lt-leb 0x38 t h))
 
-  pub call : t ≡ 0x3_b → Row 7 39 0 0 → r ≡ slots_of t
+  pub call : t ≡ 0x3B → Row 7 39 0 0 → r ≡ slots_of t
   unfolding up_to_zero grammar slots_in
-  call e q = single 0x3_b e q
+  call e q = single 0x3B e q
 
-  pub member : t ≡ 0x3_a → Row 7 1 0 0 → r ≡ slots_of t
+  pub member : t ≡ 0x3A → Row 7 1 0 0 → r ≡ slots_of t
   unfolding up_to_zero grammar slots_in
-  member e q = single 0x3_a e q
+  member e q = single 0x3A e q
 
   pub assign : is_assign t ≡ true → Row 7 7 0 0 → r ≡ slots_of t
   unfolding up_to_zero same_bytes is_expression is_statement is_assign is_clause grammar slots_in

@@ -84,10 +84,10 @@ grammar =
     row 0x13 0x15 (one expression ∷ one expression ∷ []) ∷
     row 0x16 0x16 (one expression ∷ []) ∷
     row 0x38 0x39 (one expression ∷ []) ∷
-    row 0x3_a 0x3_a (one expression ∷ one name ∷ []) ∷
-    row 0x3_b 0x3_b (one expression ∷ many expression ∷ []) ∷
-    row 0x3_c 0x3_d (one expression ∷ []) ∷
-    row 0x40 0x4_d (one expression ∷ one expression ∷ []) ∷ []
+    row 0x3A 0x3A (one expression ∷ one name ∷ []) ∷
+    row 0x3B 0x3B (one expression ∷ many expression ∷ []) ∷
+    row 0x3C 0x3D (one expression ∷ []) ∷
+    row 0x40 0x4D (one expression ∷ one expression ∷ []) ∷ []
 
 -- the slots of a tag, by the first row that has it; texts and empty fields have none
 unfoldable pub slots_in : List Row → ℕ → List ℕ

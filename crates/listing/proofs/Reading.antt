@@ -19,7 +19,7 @@ module _ (s : List ℕ) (what : ℕ) (e : what ≡ get_or s 0 0) where
     size-covers z = rw (← e, eq-eqb what 0 z, ← f, ← g)
 
     module _ (n : ℕ) (t : List ℕ) (at : ℕ) (u : List ℕ) (r : ℕ) where
-      pub lines-rejected : (what ≡ 2 → ⊥) → what ≡ 1 → Written (two_of (0x65 ∷ 0x20 ∷ []) n (0x20 ∷ 0x6_e ∷ 0x6_f ∷ 0x20 ∷ []) first) t at u r →
+      pub lines-rejected : (what ≡ 2 → ⊥) → what ≡ 1 → Written (two_of (0x65 ∷ 0x20 ∷ []) n (0x20 ∷ 0x6E ∷ 0x6F ∷ 0x20 ∷ []) first) t at u r →
           Written (lines_of n s) t at u r
       unfolding lines_of rejected_line
       lines-rejected y z w = rw (← e, ne_eqb what 2 y, eq-eqb what 1 z, ← f, ← g) w
@@ -29,7 +29,7 @@ module _ (s : List ℕ) (what : ℕ) (e : what ≡ get_or s 0 0) where
         unfolding lines_of refusal_line
         lines-refused z w = rw (← e, eq-eqb what 2 z, ← f, ← g, ← h, ← k) w
 
-        pub lines-accepted : (what ≡ 2 → ⊥) → (what ≡ 1 → ⊥) → Written (three_of (0x65 ∷ 0x20 ∷ []) n (0x20 ∷ 0x6_f ∷ 0x6_b ∷ 0x20 ∷ []) first second) t at u r →
+        pub lines-accepted : (what ≡ 2 → ⊥) → (what ≡ 1 → ⊥) → Written (three_of (0x65 ∷ 0x20 ∷ []) n (0x20 ∷ 0x6F ∷ 0x6B ∷ 0x20 ∷ []) first second) t at u r →
             (c : List ℕ) → c ≡ drop 5 s → (v : List ℕ) (m : ℕ) → Written (flat_map (cover_line_at c) (below first)) u r v m → Written (lines_of n s) t at v m
         unfolding lines_of accepted_line
         lines-accepted y z w c l v m x =

@@ -12,8 +12,8 @@ decimal n = digits (suc n) n
 
 -- a line of two texts with a number behind each
 abbrev pub two_of : (a : List ℕ) (i : ℕ) (b : List ℕ) (j : ℕ) → List ℕ
-two_of a i b j = a ++ (decimal i ++ (b ++ (decimal j ++ 0x0_a ∷ [])))
+two_of a i b j = a ++ (decimal i ++ (b ++ (decimal j ++ 0x0A ∷ [])))
 
 -- a line of three, the third behind a space
 abbrev pub three_of : (a : List ℕ) (i : ℕ) (b : List ℕ) (j last : ℕ) → List ℕ
-three_of a i b j last = a ++ (decimal i ++ (b ++ (decimal j ++ 0x20 ∷ (decimal last ++ 0x0_a ∷ []))))
+three_of a i b j last = a ++ (decimal i ++ (b ++ (decimal j ++ 0x20 ∷ (decimal last ++ 0x0A ∷ []))))

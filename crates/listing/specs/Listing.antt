@@ -13,7 +13,7 @@ use Rattle.listing.specs.Decimal.{decimal}
 
 -- a line: words with a space between them, and a line feed at the end
 abbrev pub line : List ℕ → List (List ℕ) → List ℕ
-line word [] = word ++ 0x0_a ∷ []
+line word [] = word ++ 0x0A ∷ []
 line word (w ∷ ws) = word ++ 0x20 ∷ line w ws
 
 -- `r number place`

@@ -75,10 +75,10 @@ examples =
     answers (state (name "r") (nots 32 in_asset)) (fails 4 109) ∷
     answers (state (name "r") (nots 31 in_asset)) passes ∷
     -- 5: bytes 1F, 20, 7E, 7F; empty names; empty integers, dates and strings pass; a filled empty field; before 6
-    answers (write Entry (write Name (0x1_f ∷ []))) (fails 5 3) ∷
+    answers (write Entry (write Name (0x1F ∷ []))) (fails 5 3) ∷
     answers (write Entry (write Name (0x20 ∷ []))) passes ∷
-    answers (write Entry (write Name (0x7_e ∷ []))) passes ∷
-    answers (write Entry (write Name (0x61 ∷ 0x7_f ∷ []))) (fails 5 3) ∷
+    answers (write Entry (write Name (0x7E ∷ []))) passes ∷
+    answers (write Entry (write Name (0x61 ∷ 0x7F ∷ []))) (fails 5 3) ∷
     answers (write State (name "")) (fails 5 3) ∷
     answers (write State (name "r" ++ type_name "")) (fails 5 7) ∷
     one (guard (identifier "")) (fails 5 10) ∷

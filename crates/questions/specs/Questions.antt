@@ -28,7 +28,7 @@ ask false n p = fails n p
 
 -- question 5: text bytes are 20 to 7E, and 20, 21 and 33 are not empty; an empty field holds nothing
 unfoldable pub content_allowed : ℕ → List ℕ → Bool
-content_allowed t x = cond (is_text t) (all (between 0x20 0x7_e) x && (known x || between 0x30 0x32 t)) (not (known x))
+content_allowed t x = cond (is_text t) (all (between 0x20 0x7E) x && (known x || between 0x30 0x32 t)) (not (known x))
 
 -- the depth of an expression inside a field with tag t: one more in an expression, 1 in a statement, clause or default
 abbrev pub depth_inside : ℕ → ℕ → ℕ

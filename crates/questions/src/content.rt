@@ -8,12 +8,12 @@ use tags::{INTEGER, STRING, is_text};
 
 // Whether every byte is from 20 to 7E.
 fn is_printable(text: &[u8]) -> bool
-    ensures { result ≡ all (between 0x20 0x7_e) text.now }
+    ensures { result ≡ all (between 0x20 0x7E) text.now }
 {
     let mut i = 0;
     while i < text.len() {
         let byte = text[i];
-        if !((0x20 <= byte) & (byte <= 0x7_e)) {
+        if !((0x20 <= byte) & (byte <= 0x7E)) {
             return false;
         }
         i += 1;

@@ -24,7 +24,7 @@ genesis_values model r = map (part 1) (filter (assigns r) (genesis model))
 
 -- an integer of 0 and _ only, peeled; the empty text passes
 unfoldable pub is_zero : Field → Bool
-is_zero v = eqb (tag (peel v)) Integer && all (λ c. eqb c 0x30 || eqb c 0x5_f) (text (peel v))
+is_zero v = eqb (tag (peel v)) Integer && all (λ c. eqb c 0x30 || eqb c 0x5F) (text (peel v))
 
 -- r starts at zero
 unfoldable pub starts_at_zero : Fields → List ℕ → Bool

@@ -12,7 +12,7 @@ use Rattle.raises.specs.Raises.{assigns, value, sets_from, is_zero}
 
 -- the digit 0, or the underscore between digits
 unfoldable pub zero_digit : ℕ → Bool
-zero_digit c = eqb c 0x30 || eqb c 0x5_f
+zero_digit c = eqb c 0x30 || eqb c 0x5F
 
 unfoldable pub zero_digits : List ℕ → Bool
 zero_digits l = all zero_digit l

@@ -81,16 +81,16 @@ abbrev pub Negate : ℕ
 Negate = 0x39
 
 abbrev pub Member : ℕ
-Member = 0x3_a
+Member = 0x3A
 
 abbrev pub Call : ℕ
-Call = 0x3_b
+Call = 0x3B
 
 abbrev pub Checked : ℕ
-Checked = 0x3_c
+Checked = 0x3C
 
 abbrev pub Wrapping : ℕ
-Wrapping = 0x3_d
+Wrapping = 0x3D
 
 -- Binary expressions
 abbrev pub Or : ℕ
@@ -124,16 +124,16 @@ abbrev pub Sub : ℕ
 Sub = 0x49
 
 abbrev pub Mul : ℕ
-Mul = 0x4_a
+Mul = 0x4A
 
 abbrev pub Div : ℕ
-Div = 0x4_b
+Div = 0x4B
 
 abbrev pub Rem : ℕ
-Rem = 0x4_c
+Rem = 0x4C
 
 abbrev pub Shr : ℕ
-Shr = 0x4_d
+Shr = 0x4D
 
 -- m ≤ t ≤ n
 abbrev pub between : ℕ → ℕ → ℕ → Bool

@@ -58,13 +58,13 @@ pub const NOT: u8 = 0x38;
 
 pub const NEGATE: u8 = 0x39;
 
-pub const MEMBER: u8 = 0x3_a;
+pub const MEMBER: u8 = 0x3A;
 
-pub const CALL: u8 = 0x3_b;
+pub const CALL: u8 = 0x3B;
 
-pub const CHECKED: u8 = 0x3_c;
+pub const CHECKED: u8 = 0x3C;
 
-pub const WRAPPING: u8 = 0x3_d;
+pub const WRAPPING: u8 = 0x3D;
 
 // Binary expressions
 pub const OR: u8 = 0x40;
@@ -87,13 +87,13 @@ pub const ADD: u8 = 0x48;
 
 pub const SUB: u8 = 0x49;
 
-pub const MUL: u8 = 0x4_a;
+pub const MUL: u8 = 0x4A;
 
-pub const DIV: u8 = 0x4_b;
+pub const DIV: u8 = 0x4B;
 
-pub const REM: u8 = 0x4_c;
+pub const REM: u8 = 0x4C;
 
-pub const SHR: u8 = 0x4_d;
+pub const SHR: u8 = 0x4D;
 
 // 01 to 03, at the top level
 pub fn is_item(tag: u8) -> bool

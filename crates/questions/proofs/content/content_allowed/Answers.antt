@@ -26,9 +26,9 @@ module _ (t : ℕ) (x : List ℕ) where
     unfolding content_allowed all known
     empty-text h = rw (e, no-elements x h)
 
-    some-text : (length x ≡ 0 → ⊥) → (r : Bool) → r ≡ all (between 0x20 0x7_e) x → r ≡ content_allowed t x
+    some-text : (length x ≡ 0 → ⊥) → (r : Bool) → r ≡ all (between 0x20 0x7E) x → r ≡ content_allowed t x
     unfolding content_allowed
-    some-text n r q = q ∙ rw (e, is_known x n) (sym (and-true (all (between 0x20 0x7_e) x)))
+    some-text n r q = q ∙ rw (e, is_known x n) (sym (and-true (all (between 0x20 0x7E) x)))
 
 pub returns-then-not-is_text : goal.returns-then-not-is_text
 returns-then-not-is_text c = search (no_text, told)

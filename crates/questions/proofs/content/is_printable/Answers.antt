@@ -5,10 +5,10 @@ use Rattle.laws.proofs.Testing.{Testing, testing-none, testing-all, testing-fail
 use Rattle.tags.specs.Tag.{between}
 use Rattle.questions.proofs.content.is_printable.Goals as goal
 
-all_left : (l : List ℕ) → Testing (between 0x20 0x7_e) l 0 (all (between 0x20 0x7_e) l)
-all_left l = testing-none (between 0x20 0x7_e) l _ refl
+all_left : (l : List ℕ) → Testing (between 0x20 0x7E) l 0 (all (between 0x20 0x7E) l)
+all_left l = testing-none (between 0x20 0x7E) l _ refl
 
-as_read : (l : List ℕ) (i x : ℕ) → x ≡ get_or l i 0 → between 0x20 0x7_e x ≡ between 0x20 0x7_e (get_or l i 0)
+as_read : (l : List ℕ) (i x : ℕ) → x ≡ get_or l i 0 → between 0x20 0x7E x ≡ between 0x20 0x7E (get_or l i 0)
 as_read l i x e = rw e
 
 pub loop-i-init : goal.loop-i-init

@@ -6,7 +6,7 @@ use Rattle.tags.specs.Tag.{between}
 use Rattle.questions.proofs.content.is_printable.Given as goal
 
 abbrev pub invariant-loop-i : goal.invariant-loop-i
-invariant-loop-i l = Testing (between 0x20 0x7_e) l.text l.i (all (between 0x20 0x7_e) l.text)
+invariant-loop-i l = Testing (between 0x20 0x7E) l.text l.i (all (between 0x20 0x7E) l.text)
 
 abbrev pub decreases-loop-i : goal.decreases-loop-i
 decreases-loop-i l = length l.text - l.i
