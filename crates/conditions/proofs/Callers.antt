@@ -1,10 +1,8 @@
 -- What a caller of the listing knows: each condition stands in the entry at its place, which two bytes hold beside the mark,
 -- so the numbers of the table give the conditions back; and there are few of them.
 use Rattle.std.proofs.Common.{ℕ, ◌+◌, ◌*◌, ◌%◌, ◌≤◌, ◌<◌, ◌≡◌, refl, Bool, true, false, List, [], ◌∷◌, map, arith, mod-eq_of_lt, leb-true, le-leb, eqb, length, take, drop}
-use mathlib.Core.List.{flat_map}
 use borrow.Author.Tests.{lt-leb}
 use lib.ListN.{length-map}
-use Rattle.laws.specs.Lists.{filter}
 use Rattle.laws.proofs.Lists.{Every, every_append, every-filter, every-flat_map}
 use Rattle.laws.proofs.Truths.{chosen}
 use Rattle.tags.specs.Tag.{Limits, Denies, Guard, Not, Or, And, Eq, Ge, between}
@@ -12,13 +10,12 @@ use Rattle.fields.specs.Field.{Field, Fields, Placed, length_of, whole, front, t
 use Rattle.fields.specs.Field.Field.{field}
 use Rattle.fields.specs.Field.Fields.{end, next}
 use Rattle.fields.specs.Table.{Listed}
-use Rattle.fields.proofs.Reading.{front-none}
 use Rattle.fields.proofs.Places.{front-size, parts-inside}
 use Rattle.fields.proofs.Inside.{Stands, parts-stand}
 use Rattle.fields.proofs.Tables.{listed-front}
 use Rattle.conditions.specs.Conditions.{Condition, split_and, split_each, split_first, negated, negated_each, negated_first, conditions_of, conditions_from, required_conditions}
-use Rattle.conditions.specs.Table.{mark, marks, condition_at}
-use Rattle.conditions.proofs.Few.{required-few}
+use Rattle.conditions.specs.Table.{mark, marks, condition_at, conditions_at}
+use Rattle.conditions.proofs.Few.{conditions-few}
 
 -- What goes from a field to its parts holds of every condition in it
 
@@ -94,33 +91,9 @@ row_ends b n (next f fs) h = (omega arith, row_ends b (n + size f) fs (omega ari
 parts-end : (b : ℕ) (p : Placed) → Ends b p → Every (Ends b) (placed_parts p)
 parts-end b p h = row_ends b (p.place + 3) (parts p.this) (omega (arith, parts-inside p.this))
 
--- where there is no entry, there are no conditions
-none-required : (entry : List ℕ) → whole entry ≡ false → required_conditions (front entry) ≡ []
-unfolding required_conditions flat_map placed_from placed filter
-none-required entry w = rw (front-none entry w)
-
-front_ends : (entry : List ℕ) → whole entry ≡ true → size (front entry) ≤ length entry
-front_ends entry w = rw (front-size entry w) (leb-true (3 + length_of entry) (length entry) w)
-
 module _ (entry : List ℕ) where
   pub conditions-stand : Every (Holds (Stands entry)) (required_conditions (front entry))
   conditions-stand = required-every (Stands entry) (parts-stand entry) (front entry) refl
-
-  pub conditions-end : Every (Holds (Ends (length entry))) (required_conditions (front entry))
-  conditions-end = go (whole entry) refl
-    where
-      go : (w : Bool) → whole entry ≡ w → Every (Holds (Ends (length entry))) (required_conditions (front entry))
-      go true w = required-every (Ends (length entry)) (parts-end (length entry)) (front entry) (omega (arith, front_ends entry w))
-      go false w = rw (none-required entry w) tt
-
-  -- How many there are: each takes three bytes at least
-
-  pub entry-few : 3 * length (required_conditions (front entry)) ≤ length entry
-  entry-few = go (whole entry) refl
-    where
-      go : (w : Bool) → whole entry ≡ w → 3 * length (required_conditions (front entry)) ≤ length entry
-      go true w = omega (arith, required-few (front entry), front_ends entry w)
-      go false w = rw (none-required entry w) (omega arith)
 
   -- The numbers of the table give them back
 
@@ -143,13 +116,25 @@ module _ (entry : List ℕ) where
         read-marks h cs e.1 l.1,
       )
 
-  pub conditions-read : length entry ≤ 32768 → map (condition_at entry) (marks (required_conditions (front entry))) ≡ required_conditions (front entry)
-  conditions-read h = read-marks h (required_conditions (front entry)) conditions-stand conditions-end
+  -- those of a clause or guard that stands in the entry
+  module _ (n : ℕ) (s : List ℕ) (e : front (drop n entry) ≡ front s) (w : whole s ≡ true) (l : n + length s ≤ length entry) where
+    abbrev here : Placed
+    here = record { place = n; this = front s }
 
-  -- a table with an element for each three bytes of the entry has room for all of them
-  module _ (table last : List ℕ) (r : ℕ) (p : Listed (marks (required_conditions (front entry))) table 0 last r) where
-    pub table-wide : length entry ≤ 3 * length table → r ≤ length table
-    table-wide h = omega (arith, p.count, length-map (required_conditions (front entry)) mark, entry-few)
+    end-here : Ends (length entry) here
+    end-here = omega (arith, front-size s w, leb-true (3 + length_of s) (length s) w)
 
-    pub table-read : length entry ≤ 32768 → r ≤ length table → map (condition_at entry) (take r last) ≡ required_conditions (front entry)
-    table-read h l = rw (listed-front (marks (required_conditions (front entry))) table last r p l) (conditions-read h)
+    conditions-read : length entry ≤ 32768 → map (condition_at entry) (marks (conditions_at s n)) ≡ conditions_at s n
+    unfolding conditions_at
+    conditions-read h =
+        read-marks h (conditions_of here) (conditions-every (Stands entry) (parts-stand entry) here e)
+        (conditions-every (Ends (length entry)) (parts-end (length entry)) here end-here)
+
+    module _ (table last : List ℕ) (r : ℕ) (p : Listed (marks (conditions_at s n)) table 0 last r) where
+      -- a table with an element for each three bytes of the entry has room for all of them
+      pub table-wide : length entry ≤ 3 * length table → r ≤ length table
+      unfolding conditions_at
+      table-wide h = omega (arith, p.count, length-map (conditions_of here) mark, conditions-few here, end-here)
+
+      pub table-read : length entry ≤ 32768 → r ≤ length table → map (condition_at entry) (take r last) ≡ conditions_at s n
+      table-read h m = rw (listed-front (marks (conditions_at s n)) table last r p m) (conditions-read h)

@@ -1,14 +1,12 @@
 -- How many conditions there are at most: each is an expression of its own, which takes three bytes at least.
-use Rattle.std.proofs.Common.{ℕ, ◌+◌, ◌*◌, ◌≤◌, ◌≡◌, refl, Bool, true, false, cond, List, ◌∷◌, ◌++◌, arith, leb-true, eqb, leb, length, length-append}
-use mathlib.Core.List.{flat_map}
-use Rattle.laws.specs.Lists.{filter}
-use Rattle.laws.proofs.Truths.{and_left, and_right, chosen}
-use Rattle.tags.specs.Tag.{Limits, Denies, Guard, Not, Or, And, Eq, Ge, between}
-use Rattle.fields.specs.Field.{Field, Fields, Placed, tag, parts, size, sizes, placed, placed_from}
+use Rattle.std.proofs.Common.{ℕ, ◌+◌, ◌*◌, ◌≤◌, List, ◌++◌, arith, eqb, length, length-append}
+use Rattle.laws.proofs.Truths.{chosen}
+use Rattle.tags.specs.Tag.{Denies, Not, Or, And, Eq, Ge, between}
+use Rattle.fields.specs.Field.{Field, Fields, Placed, tag, parts, size, sizes}
 use Rattle.fields.specs.Field.Field.{field}
 use Rattle.fields.specs.Field.Fields.{end, next}
 use Rattle.fields.proofs.Places.{parts-inside}
-use Rattle.conditions.specs.Conditions.{Condition, split_and, split_each, split_first, negated, negated_each, negated_first, conditions_of, conditions_from, required_conditions}
+use Rattle.conditions.specs.Conditions.{Condition, split_and, split_each, split_first, negated, negated_each, negated_first, conditions_of}
 
 -- so many conditions fit into so many bytes
 abbrev Fit : ℕ → List Condition → Type 0
@@ -61,45 +59,3 @@ conditions-few p =
     chosen (Fit (sizes (parts p.this))) (eqb (tag p.this) Denies)
     (negated-first-few (p.place + 3) (parts p.this)) (split-first-few (p.place + 3) (parts p.this)) in
     omega (arith, parts-inside p.this)
-
--- of the clauses and the guards among some parts: no tag is both a clause's and a guard's
-module _ (n : ℕ) (f : Field) (fs : Fields) where
-  abbrev one : List Condition
-  one = conditions_of (record { place = n; this = f })
-
-  abbrev later : (low high : ℕ) → List Condition
-  later low high = conditions_from low high (n + size f) fs
-
-  from_next : (low high : ℕ) → length (conditions_from low high n (next f fs))
-      ≡ cond (between low high (tag f)) (length one) 0 + length (later low high)
-  unfolding flat_map placed_from placed filter
-  from_next low high = go (between low high (tag f))
-    where
-      go : (k : Bool) → length (flat_map conditions_of (cond k (record { place = n; this = f } ∷ placed_from low high (n + size f) fs) (placed_from low high (n + size f) fs)))
-          ≡ cond k (length one) 0 + length (later low high)
-      go true = length-append one (later low high)
-      go false = omega arith
-
-  one-of-them : cond (between Limits Denies (tag f)) (length one) 0 + cond (between Guard Guard (tag f)) (length one) 0 ≤ length one
-  one-of-them = go (between Limits Denies (tag f)) (between Guard Guard (tag f)) refl refl
-    where
-      go : (j k : Bool) → between Limits Denies (tag f) ≡ j → between Guard Guard (tag f) ≡ k → cond j (length one) 0 + cond k (length one) 0 ≤ length one
-      go true true p q =
-          absurd (omega (arith, leb-true (tag f) Denies (and_right (leb Limits (tag f)) (leb (tag f) Denies) p), leb-true Guard (tag f) (and_left (leb Guard (tag f)) (leb (tag f) Guard) q)))
-      go true false p q = omega arith
-      go false true p q = omega arith
-      go false false p q = omega arith
-
-both-few : (n : ℕ) (fs : Fields) → 3 * (length (conditions_from Limits Denies n fs) + length (conditions_from Guard Guard n fs)) ≤ sizes fs
-unfolding flat_map placed_from placed filter sizes
-both-few n (end r) = omega arith
-both-few n (next f fs) =
-    omega (arith, from_next n f fs Limits Denies, from_next n f fs Guard Guard, one-of-them n f fs, conditions-few (record { place = n; this = f }), both-few (n + size f) fs)
-
-pub clauses-few : (n : ℕ) (fs : Fields) → 3 * length (conditions_from Limits Denies n fs) ≤ sizes fs
-clauses-few n fs = omega (arith, both-few n fs)
-
--- of an entry
-pub required-few : (f : Field) → 3 + 3 * length (required_conditions f) ≤ size f
-unfolding required_conditions
-required-few f = rw length-append (omega (arith, both-few 3 (parts f), parts-inside f))

@@ -1,16 +1,16 @@
 // SPDX-License-Identifier: Apache-2.0 OR MIT
-// The conditions that an entry requires, taken apart, in a table that the caller lends. An expression visits its list of
+// The conditions of a clause or a guard, taken apart, in a table that the caller lends. An expression visits its list of
 // parts, and the list, gone through by a loop, visits expressions: the stack grows with the nesting of a file and not with
 // the length of its lists.
-ghost use Rattle.std.specs.Prelude.{cond};
-ghost use Rattle.fields.specs.Field.{fields, front};
+ghost use Rattle.std.specs.Prelude.{◌≡◌, true, cond};
+ghost use Rattle.fields.specs.Field.{fields, whole};
 ghost use Rattle.fields.specs.Table.{Listed, Room};
-ghost use Rattle.conditions.specs.Conditions.{split_first, split_each, negated_first, negated_each, conditions_from, required_conditions};
-ghost use Rattle.conditions.specs.Table.{marks};
+ghost use Rattle.conditions.specs.Conditions.{split_first, split_each, negated_first, negated_each};
+ghost use Rattle.conditions.specs.Table.{marks, conditions_at};
 
-use fields::front::{after_front, first_from, front_tag, is_whole, length_of, parts_of, tag_of};
+use fields::front::{after_front, front_tag, is_whole, length_of, parts_of, tag_of};
 use fields::table::note;
-use tags::{AND, DENIES, EQ, GE, GUARD, LIMITS, NOT, OR};
+use tags::{AND, DENIES, EQ, GE, NOT, OR};
 
 // What a number of the table has more if its condition is flipped. A file that passes question 1 has no place as large; of
 // a longer one a place is written modulo this number, so that the listing asks nothing of its caller.
@@ -82,30 +82,13 @@ fn list_each(s: &[u8], base: usize, denied: bool, table: &mut [u16], n: usize) -
     m
 }
 
-// Lists the conditions of the clauses or guards whose tags are from low to high among s, the parts of an entry, which stand
-// behind its three-byte head.
-fn list_from(s: &[u8], low: u8, high: u8, table: &mut [u16], n: usize) -> usize
-    requires { Room s.now 3 n }
-    ensures { Listed (marks (conditions_from low high 3 (fields s.now))) table.old n table.new result }
+// Lists the conditions of the clause or guard at the front of s, which stands at a place of its entry, as far as the table has
+// room, and answers how many there are. A number is the place of the condition's expression, counted from the entry's own,
+// with 32,768 more if the condition is flipped.
+pub fn list_conditions(s: &[u8], at: usize, table: &mut [u16]) -> usize
+    requires there { whole s.now ≡ true }
+    requires room { Room s.now at 0 }
+    ensures { Listed (marks (conditions_at s.now at)) table.old 0 table.new result }
 {
-    let mut t = first_from(s, low, high);
-    let mut m = n;
-    while is_whole(t) {
-        let at = 3 + (s.len() - t.len());
-        m = list_first(parts_of(t), at + 3, tag_of(t) == DENIES, table, m);
-        let u = first_from(after_front(t), low, high);
-        t = u;
-    }
-    m
-}
-
-// Lists the conditions of the entry at the front of the slice, as far as the table has room, and answers how many there are:
-// those of its clauses, then those of its guards. A number is the place of the condition's expression, counted from the
-// entry's own, with 32,768 more if the condition is flipped.
-pub fn list_conditions(entry: &[u8], table: &mut [u16]) -> usize
-    ensures { Listed (marks (required_conditions (front entry.now))) table.old 0 table.new result }
-{
-    let parts = parts_of(entry);
-    let n = list_from(parts, LIMITS, DENIES, table, 0);
-    list_from(parts, GUARD, GUARD, table, n)
+    list_first(parts_of(s), at + 3, tag_of(s) == DENIES, table, 0)
 }

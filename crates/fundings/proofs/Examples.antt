@@ -13,10 +13,9 @@ use Rattle.walking.specs.Walking.{is_asset_parameter, asset_params}
 use Rattle.conditions.specs.Conditions.{split_and, split_each, split_first, negated, negated_each, negated_first, conditions_of, required_conditions, opposite, operator}
 use Rattle.tokens.specs.Tokens.{single, beside_in_asset, token_named, tokens_named, is_inflow, is_credit, is_funding}
 use Rattle.tokens.specs.Numbers.{token_of, joined, joined_all, condition_number, tokens_number}
-use Rattle.tokens.specs.Place.{beside_place, found_in, found_of, first_place}
+use Rattle.tokens.specs.Place.{beside_place, token_place}
 use Rattle.fundings.specs.FundingTokens.{funds, ledger_funding_tokens, funding_token}
-use Rattle.fundings.specs.Fundings.{is_funding_call, numbers_of, fundings_of, fundings, found_with, found_through}
-use Rattle.fundings.specs.Place.{funding_place}
+use Rattle.fundings.specs.Fundings.{funding_number, is_funding_call, numbers_of, fundings_of, fundings, found_with, found_through}
 
 abbrev in_asset : List ℕ
 in_asset = write InAsset []
@@ -79,14 +78,6 @@ funding-none : funded
 unfolding funded
 funding-none = refl
 
--- the place of the first of two entries that fund the map
-funding-place : funding_place 100 (fields (entry x ++ (funding "T" (credits "credit" (amount "a")) ++ funding "T" (credits "set" (amount "a"))))) (bytes "m") ≡ 47
-unfolding any filter same_bytes known fields fields_to nth composite size sizes placed placed_from place_of row fields_from flat_map is_expression is_statement is_wrapper entries params peel
-    peel_first peel_place peel_first_place walk walk_parts stmt_exprs body_exprs exprs ident method receiver asset_amount_backer is_asset_parameter asset_params split_and split_each
-    split_first negated negated_each negated_first conditions_of required_conditions opposite operator beside_in_asset token_named is_inflow is_credit is_funding funds beside_place
-    found_in found_of first_place funding_place
-funding-place = refl
-
 -- the calls that fund some map, each with its place and what its entry names
 listed : List (List ℕ) → List (List ℕ)
 unfolding any all filter same_bytes known fields fields_to nth composite size sizes placed placed_from row fields_from flat_map is_expression is_statement is_wrapper entries params peel
@@ -120,3 +111,21 @@ going : map gone
     ≡ (bytes "T" ∷ bytes "U" ∷ [] ∷ []) ∷ (bytes "T" ∷ bytes "T" ∷ [] ∷ []) ∷ (bytes "T" ∷ [] ∷ [] ∷ []) ∷ ([] ∷ [] ∷ [] ∷ []) ∷ (bytes "T" ∷ [] ∷ [] ∷ []) ∷ []
 unfolding gone
 going = refl
+
+-- the set of m's tokens in such files: the first comparison of those that name the same, and 2; where it is one, its token stands
+-- behind two heads
+funded_numbers : List (List ℕ) → List ℕ
+unfolding listed funds exprs is_funding funding_number
+funded_numbers files = map (λ f. funding_number f (bytes "m")) files
+
+numbering : funded_numbers
+    ((funding "T" (credits "credit" (amount "a")) ++ funding "U" credits_other) ∷ (funding "T" credits_other ++ funding "U" (credits "credit" (amount "a")))
+    ∷ (funding "T" (credits "credit" (amount "a")) ++ funding "T" (credits "set" (amount "a"))) ∷ (funding "T" (credits "credit" (amount "a")) ++ funding "U" (credits "set" (amount "a")))
+    ∷ (entry (asset "a" ++ credits "set" (amount "a")) ++ funding "T" (credits "credit" (amount "a"))) ∷ [] ∷ [])
+    ≡ 29 ∷ 108 ∷ 29 ∷ 1 ∷ 92 ∷ 0 ∷ []
+unfolding funded_numbers
+numbering = refl
+
+showing : token_place (funding "T" (credits "credit" (amount "a"))) 29 ≡ 36
+unfolding listed peel_place peel_first_place place_of beside_place token_place
+showing = refl

@@ -1,20 +1,22 @@
--- The token that funds a map shows the bytes where the first entry that funds it names one.
-use Rattle.std.proofs.Common.{ℕ, ◌≡◌, refl, ◌∙◌, Bool, true, false, cond, List, [], ◌∷◌, map, length}
-use mathlib.Core.List.{flat_map, map-append}
+-- The token that funds a map is that of its number, and shows the bytes where the number says that it stands.
+use Rattle.std.proofs.Common.{ℕ, ◌≤◌, ◌<◌, ◌≡◌, refl, ◌∙◌, Bool, true, false, cond, List, [], ◌∷◌, length}
+use mathlib.Core.List.{flat_map}
 use lib.Seq.{take-length}
 use Rattle.laws.specs.Lists.{filter}
-use Rattle.laws.proofs.Lists.{Every, every-filter, every-flat_map}
+use Rattle.laws.proofs.Lists.{Every, every-filter}
 use Rattle.tags.specs.Tag.{Entry, between}
 use Rattle.fields.specs.Field.{Field, Placed, fields, tag, placed, placed_from}
 use Rattle.fields.proofs.Inside.{Stands, row-stands}
 use Rattle.model.specs.Model.{entries}
 use Rattle.walking.specs.Walking.{without_places}
 use Rattle.tokens.specs.Tokens.{tokens_named}
-use Rattle.tokens.specs.Numbers.{token_of}
-use Rattle.tokens.specs.Place.{found_of}
-use Rattle.tokens.proofs.Shown.{Shows, ShownIn, entry-shown, single-shown, found-tokens}
+use Rattle.tokens.specs.Numbers.{token_of, tokens_number}
+use Rattle.tokens.specs.Place.{token_place}
+use Rattle.tokens.proofs.Joining.{Means, means-all, means-token, means-small}
+use Rattle.tokens.proofs.Numbers.{entry-means}
+use Rattle.tokens.proofs.Shown.{Shows, token-shows}
 use Rattle.fundings.specs.FundingTokens.{funds, ledger_funding_tokens, funding_token}
-use Rattle.fundings.specs.Place.{funding_place}
+use Rattle.fundings.specs.Fundings.{funding_number}
 
 -- the entries of a file stand in it
 pub entries-stand : (file : List ℕ) → Every (Stands file) (entries (fields file))
@@ -23,13 +25,7 @@ entries-stand file =
     every-filter (Stands file) (λ p. between Entry Entry (tag p.this)) (placed 0 (fields file))
     (rw (take-length file) at (row-stands file 0 (length file)))
 
-found-each : (last : ℕ) (ps : List Placed) → map (λ f. f.token) (flat_map (found_of last) ps) ≡ flat_map tokens_named (without_places ps)
-unfolding flat_map
-found-each last [] = refl
-found-each last (p ∷ ps) =
-    map-append (λ f. f.token) (found_of last p) (flat_map (found_of last) ps) ∙ rw (found-tokens last p, found-each last ps)
-
-pub filter-places : (f : Field → Bool) (ps : List Placed) → without_places (filter (λ p. f p.this) ps) ≡ filter f (without_places ps)
+filter-places : (f : Field → Bool) (ps : List Placed) → without_places (filter (λ p. f p.this) ps) ≡ filter f (without_places ps)
 unfolding filter
 filter-places f [] = refl
 filter-places f (p ∷ ps) = go (f p.this) (filter-places f ps)
@@ -39,19 +35,36 @@ filter-places f (p ∷ ps) = go (f p.this) (filter-places f ps)
     go true e = rw e
     go false e = e
 
-pub funding-shown : (file m : List ℕ) → Shows file (funding_place (length file) (fields file) m) (funding_token (fields file) m)
-unfolding funding_place funding_token ledger_funding_tokens
-funding-shown file m =
-    let ps : List Placed = filter (λ p. funds m p.this) (entries (fields file)) in
-    rw (← filter-places (funds m) (entries (fields file)), ← found-each (length file) ps)
-    (single-shown file (flat_map (found_of (length file)) ps)
-    (every-flat_map (Stands file) (ShownIn file) (found_of (length file)) (entry-shown file) ps
-    (every-filter (Stands file) (λ p. funds m p.this) (entries (fields file)) (entries-stand file))))
+each-without : (g : Field → List (List ℕ)) (ps : List Placed) → flat_map (λ p. g p.this) ps ≡ flat_map g (without_places ps)
+unfolding flat_map
+each-without g [] = refl
+each-without g (p ∷ ps) = rw (each-without g ps)
 
--- so a part that reads as the token shows it there
-module _ (file m : List ℕ) (k : ℕ) (e : token_of file k ≡ funding_token (fields file) m) (r : List ℕ) (f : r ≡ token_of file k) where
-  pub funding-read : r ≡ funding_token (fields file) m
-  funding-read = f ∙ e
+entries-mean : (file : List ℕ) (ps : List Placed) → Every (Stands file) ps → Every (λ p. Means file (tokens_number file p) (tokens_named p.this)) ps
+entries-mean file [] e = tt
+entries-mean file (p ∷ ps) e = (entry-means file p e.0, entries-mean file ps e.1)
 
-  pub funding-there : Shows file (funding_place (length file) (fields file) m) r
-  funding-there = rw funding-read (funding-shown file m)
+module _ (file m : List ℕ) where
+  -- the number stands for all tokens named by the entries that fund the map
+  funding-means : Means file (funding_number file m) (ledger_funding_tokens (fields file) m)
+  unfolding funding_number ledger_funding_tokens
+  funding-means =
+      let es : List Placed = filter (λ p. funds m p.this) (entries (fields file)) in
+      rw (← filter-places (funds m) (entries (fields file)), ← each-without tokens_named es)
+      (means-all file (tokens_number file) (λ p. tokens_named p.this) 0 [] es refl
+      (entries-mean file es (every-filter (Stands file) (λ p. funds m p.this) (entries (fields file)) (entries-stand file))))
+
+  pub funding-token : token_of file (funding_number file m) ≡ funding_token (fields file) m
+  unfolding funding_token
+  funding-token = means-token file (funding_number file m) (ledger_funding_tokens (fields file) m) funding-means
+
+  pub funding-small : length file ≤ 32768 → funding_number file m < 65536
+  funding-small h = means-small file h (funding_number file m) (ledger_funding_tokens (fields file) m) funding-means
+
+  -- so a part that reads as what the number stands for is the token, and shows it there
+  module _ (k : ℕ) (e : k ≡ funding_number file m) (r : List ℕ) (f : r ≡ token_of file k) where
+    pub funding-read : r ≡ funding_token (fields file) m
+    funding-read = f ∙ rw e funding-token
+
+    pub funding-there : Shows file (token_place file (funding_number file m)) r
+    funding-there = token-shows file k r f (funding_number file m) e

@@ -5,7 +5,7 @@ use mathlib.Core.List.{flat_map}
 use borrow.Author.Tests.{not-true, not-false}
 use Rattle.laws.proofs.Slices.{drop-step}
 use Rattle.laws.proofs.Truths.{either_way}
-use Rattle.laws.proofs.Lists.{Every, every-filter}
+use Rattle.laws.proofs.Lists.{Every}
 use Rattle.laws.specs.Texts.{same_bytes}
 use Rattle.laws.specs.Lists.{any, filter}
 use Rattle.fields.specs.Field.{Field, Placed, fields, front, part}
@@ -13,14 +13,13 @@ use Rattle.fields.proofs.Inside.{Stands}
 use Rattle.model.specs.Model.{entries}
 use Rattle.walking.specs.Walking.{without_places, body_exprs, peel, receiver}
 use Rattle.walking.proofs.Callers.{body-stands, body-anywhere}
-use Rattle.tokens.specs.Tokens.{tokens_named, is_credit, is_inflow, is_funding}
-use Rattle.tokens.specs.Numbers.{not_yet, token_of, joined, joined_all, tokens_number}
-use Rattle.tokens.proofs.Joining.{Means, means-all, means-token, means-small, joined-again, joined-several}
-use Rattle.tokens.proofs.Numbers.{entry-means}
-use Rattle.fundings.specs.FundingTokens.{funds, ledger_funding_tokens, funding_token}
-use Rattle.fundings.specs.Fundings.{is_funding_call, numbers_of, fundings_of, fundings, found_with, found_through}
+use Rattle.tokens.specs.Tokens.{is_credit, is_inflow, is_funding}
+use Rattle.tokens.specs.Numbers.{not_yet, joined, joined_all, tokens_number}
+use Rattle.tokens.proofs.Joining.{joined-again, joined-several}
+use Rattle.fundings.specs.FundingTokens.{funds}
+use Rattle.fundings.specs.Fundings.{funding_number, is_funding_call, numbers_of, fundings_of, fundings, found_with, found_through}
 use Rattle.fundings.specs.Funded.{Funded, listed_from}
-use Rattle.fundings.proofs.Shown.{entries-stand, filter-places}
+use Rattle.fundings.proofs.Shown.{entries-stand}
 
 -- a call funds the map if it funds some map and is one of it
 funding-either : (m : List ℕ) (e f : Field) → is_funding m e f ≡ is_funding_call e f && same_bytes (receiver f) m
@@ -109,29 +108,12 @@ module _ (file m : List ℕ) where
       go on true = on (joined file found (tokens_number file p))
       go on false = on found
 
-entries-mean : (file : List ℕ) (ps : List Placed) → Every (Stands file) ps → Every (λ p. Means file (tokens_number file p) (tokens_named p.this)) ps
-entries-mean file [] e = tt
-entries-mean file (p ∷ ps) e = (entry-means file p e.0, entries-mean file ps e.1)
-
-each-without : (g : Field → List (List ℕ)) (ps : List Placed) → flat_map (λ p. g p.this) ps ≡ flat_map g (without_places ps)
-unfolding flat_map
-each-without g [] = refl
-each-without g (p ∷ ps) = rw (each-without g ps)
-
 -- so the set that is found is that of the map's tokens
-through-means : (file m : List ℕ) → Means file (found_through file m 0 (fundings file)) (ledger_funding_tokens (fields file) m)
-unfolding fundings ledger_funding_tokens
-through-means file m =
-    let es : List Placed = filter (λ p. funds m p.this) (entries (fields file)) in
-    rw (
-      through-all file m (entries (fields file)) 0 (entries-stand file),
-      ← filter-places (funds m) (entries (fields file)),
-      ← each-without tokens_named es,
-    )
-    (means-all file (tokens_number file) (λ p. tokens_named p.this) 0 [] es refl
-    (entries-mean file es (every-filter (Stands file) (λ p. funds m p.this) (entries (fields file)) (entries-stand file))))
+pub through-number : (file m : List ℕ) → found_through file m 0 (fundings file) ≡ funding_number file m
+unfolding fundings funding_number
+through-number file m = through-all file m (entries (fields file)) 0 (entries-stand file)
 
--- and where they are listed in the table of facts, its number is that of the map's token
+-- and where they are listed in the table of facts, what is found through them
 module _ (file m facts : List ℕ) (f : Funded file facts) (count : ℕ) (c : count ≡ get_or facts 0 0) (n : count ≡ not_yet → ⊥) where
   pub through-room : listed_from + count ≤ length facts
   through-room = omega (arith, f.long, f.room (rw (← c) n))
@@ -139,18 +121,10 @@ module _ (file m facts : List ℕ) (f : Funded file facts) (count : ℕ) (c : co
   pub through-fits : Fits w64 (listed_from + count)
   through-fits = omega (arith, through-room, f.long)
 
-  module _ (k : ℕ) (e : k ≡ found_through file m 0 (take (listed_from + count - listed_from) (drop listed_from facts))) where
-    listed-means : Means file k (ledger_funding_tokens (fields file) m)
-    listed-means =
-        let z : listed_from + count - listed_from ≡ count = omega arith in
-        rw (e, z, c, f.listed (rw (← c) n)) (through-means file m)
-
-    pub through-listed : token_of file k ≡ funding_token (fields file) m
-    unfolding funding_token
-    through-listed = means-token file k (ledger_funding_tokens (fields file) m) listed-means
-
-    pub through-small : length file ≤ 32768 → k < 65536
-    through-small h = means-small file h k (ledger_funding_tokens (fields file) m) listed-means
+  pub through-listed : (k : ℕ) → k ≡ found_through file m 0 (take (listed_from + count - listed_from) (drop listed_from facts)) → k ≡ funding_number file m
+  through-listed k e =
+      let z : listed_from + count - listed_from ≡ count = omega arith in
+      e ∙ rw (z, c, f.listed (rw (← c) n)) (through-number file m)
 
 -- One call after the other
 

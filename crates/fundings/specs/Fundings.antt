@@ -1,16 +1,19 @@
--- The calls of a file that fund some map, listed once as numbers of two bytes, so that a map's token is found by a loop over
--- them; and where nothing was listed, the entries that fund it.
-use Rattle.std.specs.Prelude.{ℕ, ◌+◌, ◌*◌, ◌%◌, ◌≤◌, ◌<◌, Bool, cond, ◌&&◌, length, drop}
+-- The token that funds a map as a number; and the calls of a file that fund some map, listed once as numbers of two bytes, so that
+-- a map's token is found by a loop over them.
+use Rattle.std.specs.Prelude.{ℕ, ◌+◌, ◌*◌, ◌%◌, ◌≤◌, ◌<◌, Bool, cond, ◌&&◌, map, length, drop}
 use mathlib.Core.List.{List, [], ◌∷◌, flat_map}
 use Rattle.laws.specs.Texts.{same_bytes}
 use Rattle.laws.specs.Lists.{filter}
-use Rattle.tags.specs.Tag.{Entry}
-use Rattle.fields.specs.Field.{Field, Placed, fields, whole, after, front, part, fields_from}
+use Rattle.fields.specs.Field.{Field, Placed, fields, front, part}
 use Rattle.model.specs.Model.{entries}
 use Rattle.walking.specs.Walking.{peel, receiver, body_exprs}
 use Rattle.tokens.specs.Tokens.{is_inflow, is_credit}
-use Rattle.tokens.specs.Numbers.{joined, tokens_number}
+use Rattle.tokens.specs.Numbers.{joined, joined_all, tokens_number}
 use Rattle.fundings.specs.FundingTokens.{funds}
+
+-- the set of the tokens named by the entries that fund the map
+unfoldable pub funding_number : (file m : List ℕ) → ℕ
+funding_number file m = joined_all file 0 (map (tokens_number file) (filter (λ p. funds m p.this) (entries (fields file))))
 
 -- Calls that fund some map
 
@@ -56,9 +59,3 @@ numbers_at file entry number k = cond (funding_call_at file entry k) (k % 65536 
 pub record Calls (calls : List ℕ) (number n : ℕ) : Type 0 where
   pub small : number < 65536
   pub few : n + 2 * length calls ≤ 131072
-
--- The entries that fund a map
-
--- the entry at the front of s, which funds the map, and those behind it; none where no whole field stands there
-abbrev pub funding_from : List ℕ → List ℕ → List Field
-funding_from m s = cond (whole s) (front s ∷ filter (funds m) (fields_from Entry Entry (fields (after s)))) []

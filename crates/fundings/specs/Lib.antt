@@ -1,4 +1,3 @@
 pub mod FundingTokens
-pub mod Place
 pub mod Fundings
 pub mod Funded

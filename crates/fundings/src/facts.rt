@@ -1,10 +1,12 @@
 // SPDX-License-Identifier: Apache-2.0 OR MIT
 // What is the same for all entries of a file, in one lent table: how many numbers are listed of the calls that fund a map; then one
 // for each state field, of its token; and behind them what is listed.
-ghost use Rattle.std.specs.Prelude.{◌≡◌, ◌≤◌, ◌<◌, length, replicate};
+ghost use Rattle.std.specs.Prelude.{◌≡◌, ◌*◌, ◌≤◌, length, take, drop, replicate};
 ghost use Rattle.fields.specs.Field.{fields};
-ghost use Rattle.tokens.specs.Numbers.{token_of, not_yet};
+ghost use Rattle.tokens.specs.Numbers.{not_yet};
+ghost use Rattle.tokens.specs.Place.{token_place};
 ghost use Rattle.fundings.specs.FundingTokens.{funding_token};
+ghost use Rattle.fundings.specs.Fundings.{funding_number};
 ghost use Rattle.fundings.specs.Funded.{Funded, Relisted, facts_size};
 
 use super::ledger::{found_through, list_fundings};
@@ -36,8 +38,7 @@ pub fn nothing_known() -> [u16; FACTS]
 pub fn funding_number(file: &[u8], map: &[u8], facts: &[u16]) -> usize
     requires short { length file.now ≤ 32768 }
     requires funded { Funded file.now facts.now }
-    ensures reads { token_of file.now result ≡ funding_token (fields file.now) map.now }
-    ensures small { result < 65536 }
+    ensures { result ≡ funding_number file.now map.now }
 {
     let count = number_at(facts, 0);
     if count == NOT_YET {
@@ -50,21 +51,24 @@ pub fn funding_number(file: &[u8], map: &[u8], facts: &[u16]) -> usize
 pub fn funded_token<'a>(file: &'a [u8], map: &[u8], facts: &[u16]) -> &'a [u8]
     requires short { length file.now ≤ 32768 }
     requires funded { Funded file.now facts.now }
-    ensures { result.now ≡ funding_token (fields file.now) map.now }
+    ensures reads { result.now ≡ funding_token (fields file.now) map.now }
+    ensures shows { result.now ≡ take (length result.now) (drop (token_place file.now (funding_number file.now map.now)) file.now) }
 {
     token_of(file, funding_number(file, map, facts))
 }
 
-// Lists the calls of the file that fund a map, where they are not listed yet.
-pub fn list_facts(file: &[u8], facts: &mut [u16]) -> usize
+// Lists the calls of the file that fund a map, where they are not listed yet. The scratch table has a number for each three bytes
+// of the file.
+pub fn list_facts(file: &[u8], facts: &mut [u16], scratch: &mut [u16]) -> usize
     requires short { length file.now ≤ 32768 }
     requires funded { Funded file.now facts.old }
+    requires room { length file.now ≤ 3 * length scratch.old }
     ensures { Relisted file.now facts.old facts.new }
 {
     if number_at(facts, 0) != NOT_YET {
         return 0;
     }
-    let listed = list_fundings(file, &mut facts[LISTED_FROM..]);
+    let listed = list_fundings(file, &mut facts[LISTED_FROM..], scratch);
     if LISTED_ROOM < listed {
         return 0;
     }

@@ -1,7 +1,7 @@
 // SPDX-License-Identifier: Apache-2.0 OR MIT
 // The calls of a file that fund some map, listed once, and a map's token by a loop over them. What is listed of a call is its
 // place in the file, and the set of tokens that its entry names as one number.
-ghost use Rattle.std.specs.Prelude.{◌≡◌, ◌≤◌, ◌<◌, length};
+ghost use Rattle.std.specs.Prelude.{◌≡◌, ◌*◌, ◌≤◌, ◌<◌, length};
 ghost use mathlib.Core.List.{flat_map};
 ghost use Rattle.laws.specs.Lists.{any};
 ghost use Rattle.tags.specs.Tag.{Call};
@@ -17,11 +17,15 @@ use fields::front::{after_front, first_from, is_whole, part_of};
 use fields::table::{note, number_at};
 use tags::{CALL, ENTRY};
 use tokens::inflow::{is_credit, is_inflow};
-use tokens::number::{FEW, join, tokens_number};
+use tokens::number::{join, tokens_number};
 use walking::parameters::count_asset_parameters;
 use walking::peel::peel;
 use walking::shape::receiver;
 use walking::walk::{MOST_FIELDS, list_body};
+
+// Almost every entry has a handful of calls, and a table for those of any entry takes longer to clear than they take to list: it
+// is made only where they do not fit into a small one, of this size.
+const FEW: usize = 256;
 
 // Whether the call at the front of s funds some map.
 fn is_funding_call(entry: &[u8], s: &[u8]) -> bool
@@ -87,22 +91,31 @@ fn list_calls(
 
 // The same of the calls of the entry at a place of the file. What the entry names is worked out once, and only where a call
 // asks for it.
-fn list_calls_of(file: &[u8], place: usize, calls: &[u16], table: &mut [u16], n: usize) -> usize
+fn list_calls_of(
+    file: &[u8],
+    place: usize,
+    calls: &[u16],
+    table: &mut [u16],
+    n: usize,
+    scratch: &mut [u16],
+) -> usize
     requires standing { Standing file.now place n }
     requires listed { calls.now ≡ places_of Call (body_exprs (placed_at file.now place)) }
+    requires room { length file.now ≤ 3 * length scratch.old }
     ensures { Listed (fundings_of file.now (placed_at file.now place)) table.old n table.new result }
 {
     let entry = skip(file, place);
     if !has_funding_call(file, entry, calls) {
         return n;
     }
-    let number = tokens_number(file, place);
+    let number = tokens_number(file, place, scratch);
     list_calls(file, entry, calls, number, table, n)
 }
 
 // The same with no table of its calls at hand. An entry without asset parameters funds nothing, so its body is not walked.
-fn list_entry(file: &[u8], place: usize, table: &mut [u16], n: usize) -> usize
-    requires { Standing file.now place n }
+fn list_entry(file: &[u8], place: usize, table: &mut [u16], n: usize, scratch: &mut [u16]) -> usize
+    requires standing { Standing file.now place n }
+    requires room { length file.now ≤ 3 * length scratch.old }
     ensures { Listed (fundings_of file.now (placed_at file.now place)) table.old n table.new result }
 {
     if count_asset_parameters(skip(file, place)) == 0 {
@@ -111,23 +124,25 @@ fn list_entry(file: &[u8], place: usize, table: &mut [u16], n: usize) -> usize
     let mut few = [0u16; FEW];
     let count = list_body(file, place, CALL, &mut few);
     if count <= FEW {
-        return list_calls_of(file, place, &few[..count], table, n);
+        return list_calls_of(file, place, &few[..count], table, n, scratch);
     }
     let mut many = [0u16; MOST_FIELDS];
     let all = list_body(file, place, CALL, &mut many);
-    list_calls_of(file, place, &many[..all], table, n)
+    list_calls_of(file, place, &many[..all], table, n, scratch)
 }
 
 // Lists all calls of the file that fund some map, two numbers each, as far as the table has room, and answers how many
-// numbers there are. A table of 21,846 has room for those of every file that passes question 1.
-pub fn list_fundings(file: &[u8], table: &mut [u16]) -> usize
-    requires { length file.now ≤ 32768 }
+// numbers there are. A table of 21,846 has room for those of every file that passes question 1. The scratch table has a number for
+// each three bytes of the file.
+pub fn list_fundings(file: &[u8], table: &mut [u16], scratch: &mut [u16]) -> usize
+    requires short { length file.now ≤ 32768 }
+    requires room { length file.now ≤ 3 * length scratch.old }
     ensures { Listed (fundings file.now) table.old 0 table.new result }
 {
     let mut t = first_from(file, ENTRY, ENTRY);
     let mut m = 0;
     while is_whole(t) {
-        m = list_entry(file, file.len() - t.len(), table, m);
+        m = list_entry(file, file.len() - t.len(), table, m, scratch);
         let u = first_from(after_front(t), ENTRY, ENTRY);
         t = u;
     }

@@ -2,7 +2,7 @@
 use Rattle.std.specs.Prelude.{ℕ, Bool, true, cond, ◌&&◌, ◌||◌, not, List, [], ◌∷◌, eqb}
 use Rattle.laws.specs.Lists.{any, all, filter}
 use Rattle.laws.specs.Texts.{same_bytes}
-use Rattle.tags.specs.Tag.{Entry, Guard, SubtractFrom, ExpressionStatement, Add, Sub}
+use Rattle.tags.specs.Tag.{Guard, SubtractFrom, ExpressionStatement, Add, Sub}
 use Rattle.fields.specs.Field.{Field, fields, whole, after, front, tag, part, fields_from}
 use Rattle.model.specs.Model.{name_of, body}
 use Rattle.walking.specs.Walking.{peel, present}
@@ -42,7 +42,3 @@ raising r entry = any (is_raise r) (body entry)
 -- the statement at the front of s, which raises r, and those behind it that do; none where no whole field stands there
 abbrev pub raises_from : List ℕ → List ℕ → List Field
 raises_from r s = cond (whole s) (front s ∷ filter (is_raise r) (fields_from Guard ExpressionStatement (fields (after s)))) []
-
--- the same of entries
-abbrev pub raising_from : List ℕ → List ℕ → List Field
-raising_from r s = cond (whole s) (front s ∷ filter (raising r) (fields_from Entry Entry (fields (after s)))) []

@@ -1,14 +1,14 @@
 // SPDX-License-Identifier: Apache-2.0 OR MIT
 // The statements that raise a state field, and the entries that have one.
-ghost use Rattle.std.specs.Prelude.{◌≡◌, ◌-◌, ◌≤◌, length, drop};
+ghost use Rattle.std.specs.Prelude.{◌≡◌, ◌≤◌, length};
 ghost use Rattle.laws.specs.Lists.{filter};
-ghost use Rattle.tags.specs.Tag.{Entry, Guard, ExpressionStatement};
+ghost use Rattle.tags.specs.Tag.{Guard, ExpressionStatement};
 ghost use Rattle.fields.specs.Field.{fields, fields_from, front, after};
-ghost use Rattle.raises.specs.Raising.{is_raise, raised_by, raising, raises_from, raising_from};
+ghost use Rattle.raises.specs.Raising.{is_raise, raised_by, raising, raises_from};
 
 use super::assignment::{assigns, sets_from, value_of};
 use fields::front::{after_front, first_from, is_whole, part_of, parts_of, tag_of};
-use tags::{ADD, ADD_TO, ENTRY, SET, SUB, SUBTRACT_FROM};
+use tags::{ADD, ADD_TO, SET, SUB, SUBTRACT_FROM};
 use walking::peel::peel;
 
 // Whether the statement at the front of s raises the state field of that name: any subtraction from it is no raise. The tag
@@ -62,25 +62,8 @@ pub fn next_raise<'a>(s: &'a [u8], name: &[u8]) -> &'a [u8]
 }
 
 // Whether the entry at the front of s raises the state field.
-fn has_raise(s: &[u8], name: &[u8]) -> bool
+pub fn has_raise(s: &[u8], name: &[u8]) -> bool
     ensures { result ≡ raising name.now (front s.now) }
 {
     is_whole(first_raise(parts_of(s), name))
-}
-
-// s from its first entry on that raises the state field; no whole field where there is none.
-pub fn first_raising<'a>(s: &'a [u8], name: &[u8]) -> &'a [u8]
-    ensures found { filter (raising name.now) (fields_from Entry Entry (fields s.now)) ≡ raising_from name.now result.now }
-    ensures within { length result.now ≤ length s.now }
-    ensures tail { result.now ≡ drop (length s.now - length result.now) s.now }
-{
-    let mut t = first_from(s, ENTRY, ENTRY);
-    while is_whole(t) {
-        if has_raise(t, name) {
-            return t;
-        }
-        let u = first_from(after_front(t), ENTRY, ENTRY);
-        t = u;
-    }
-    t
 }

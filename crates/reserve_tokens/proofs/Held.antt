@@ -1,6 +1,6 @@
 -- The token of each raise and the one found so far: an unknown one leaves none, one that differs neither, and one that is the
--- same changes nothing.
-use Rattle.std.proofs.Common.{ℕ, ◌≤◌, ◌≡◌, refl, sym, ◌∙◌, Bool, true, false, cond, not, List, [], ◌∷◌, arith, ltb-true, ltb-false, ltb, length}
+-- same changes nothing. So the number that is agreed on stands for the one token of all.
+use Rattle.std.proofs.Common.{ℕ, ◌≤◌, ◌<◌, ◌≡◌, refl, sym, ◌∙◌, Bool, true, false, cond, not, List, [], ◌∷◌, map, arith, ltb-true, ltb-false, ltb, length}
 use Rattle.laws.specs.Lists.{all}
 use Rattle.laws.specs.Texts.{known, same_bytes}
 use Rattle.laws.proofs.Texts.{bytes-equal, bytes_same, unknown, is_known, same-unknown}
@@ -8,14 +8,18 @@ use Rattle.tokens.specs.Tokens.{single, differ}
 use Rattle.tokens.specs.Numbers.{token_of}
 use Rattle.tokens.proofs.Joining.{token-none, token-inside}
 use Rattle.reserve_tokens.specs.Reserving.{Found, bars}
-use Rattle.reserve_tokens.specs.Agreeing.{held}
+use Rattle.reserve_tokens.specs.Numbers.{agreed}
 
-pub held-alone : (a : List ℕ) → a ≡ held a []
+-- the one token among the one found so far, where there is one, and those that are left: here an unknown one counts
+unfoldable held : List ℕ → List (List ℕ) → List ℕ
+held found ts = cond (known found) (single (found ∷ ts)) (single ts)
+
+held-alone : (a : List ℕ) → a ≡ held a []
 unfolding held known single all
 held-alone [] = refl
 held-alone (x ∷ xs) = refl
 
-pub held_none : (ts : List (List ℕ)) → held [] ts ≡ single ts
+held_none : (ts : List (List ℕ)) → held [] ts ≡ single ts
 unfolding held known
 held_none ts = refl
 
@@ -33,7 +37,7 @@ module _ (a t : List ℕ) (ts : List (List ℕ)) where
       go false p [] q = rw p (none (all (same_bytes []) ts))
       go false p (x ∷ xs) q = cc
 
-  pub held-barred : bars a t ≡ true → [] ≡ held a (t ∷ ts)
+  held-barred : bars a t ≡ true → [] ≡ held a (t ∷ ts)
   unfolding bars differ held single all
   held-barred e = go (known t) (known a) (same_bytes a t) refl refl refl
     where
@@ -43,7 +47,7 @@ module _ (a t : List ℕ) (ts : List (List ℕ)) where
       go true true false p q r = rw (q, r)
       go true false k p q r = cc
 
-  pub held_on : bars a t ≡ false → held t ts ≡ held a (t ∷ ts)
+  held_on : bars a t ≡ false → held t ts ≡ held a (t ∷ ts)
   unfolding bars differ held single all
   held_on e = go (known t) (known a) (same_bytes a t) refl refl refl
     where
@@ -96,6 +100,30 @@ found-known file h k e = go (ltb k 2) refl
     go false f =
         let l : 2 ≤ k = ltb-false k 2 f in
         record { some = omega arith; small = omega (arith, token-inside file k e); unnamed = rw (e, f) }
+
+-- so the number that raises agree on stands for the one token of all
+agreed_held : (file : List ℕ) (k : ℕ) (ns : List ℕ) → token_of file (agreed file k ns) ≡ held (token_of file k) (map (token_of file) ns)
+unfolding agreed
+agreed_held file k [] = held-alone (token_of file k)
+agreed_held file k (n ∷ ns) = go (bars (token_of file k) (token_of file n)) refl (agreed_held file n ns)
+  where
+    go : (b : Bool) → bars (token_of file k) (token_of file n) ≡ b → token_of file (agreed file n ns) ≡ held (token_of file n) (map (token_of file) ns) →
+        token_of file (cond b 1 (agreed file n ns)) ≡ held (token_of file k) (token_of file n ∷ map (token_of file) ns)
+    go true e h = token-none-of file ∙ held-barred (token_of file k) (token_of file n) (map (token_of file) ns) e
+    go false e h = h ∙ held_on (token_of file k) (token_of file n) (map (token_of file) ns) e
+
+pub agreed-token : (file : List ℕ) (ns : List ℕ) → token_of file (agreed file 1 ns) ≡ single (map (token_of file) ns)
+agreed-token file ns = agreed_held file 1 ns ∙ rw (token-none-of file) (held_none (map (token_of file) ns))
+
+-- two bytes hold it
+pub agreed-small : (file : List ℕ) → length file ≤ 32768 → (k : ℕ) (ns : List ℕ) → k < 65536 → agreed file k ns < 65536
+unfolding agreed
+agreed-small file h k [] l = l
+agreed-small file h k (n ∷ ns) l = go (bars (token_of file k) (token_of file n)) refl (agreed-small file h n ns)
+  where
+    go : (b : Bool) → bars (token_of file k) (token_of file n) ≡ b → (n < 65536 → agreed file n ns < 65536) → cond b 1 (agreed file n ns) < 65536
+    go true e f = omega arith
+    go false e f = f (found-known file h n (not-barred (token_of file k) (token_of file n) e)).small
 
 -- what the code tests
 module _ (file : List ℕ) (found k : ℕ) where

@@ -4,3 +4,4 @@ pub mod Held
 pub mod Raised
 pub mod Reserving
 pub mod Examples
+pub mod Numbers

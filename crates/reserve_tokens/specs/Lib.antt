@@ -1,3 +1,4 @@
 pub mod ReserveTokens
 pub mod Reserving
+pub mod Numbers
 pub mod Agreeing

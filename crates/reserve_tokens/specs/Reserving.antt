@@ -1,14 +1,14 @@
 -- What the code asks on its way to a state field's token: of the calls at the places of a table, and of the token that was found
 -- so far.
-use Rattle.std.specs.Prelude.{ℕ, ◌<◌, ◌≡◌, Bool, cond, ◌&&◌, ◌||◌, not, List, [], ◌∷◌, eqb, ltb}
+use Rattle.std.specs.Prelude.{ℕ, ◌<◌, ◌≡◌, Bool, cond, ◌&&◌, ◌||◌, not, List, [], ◌∷◌, ltb}
 use Rattle.laws.specs.Texts.{same_bytes, known}
 use Rattle.laws.specs.Lists.{any}
-use Rattle.fields.specs.Field.{Field, Fields, part, nothing}
+use Rattle.fields.specs.Field.{Field, part, nothing}
 use Rattle.walking.specs.Walking.{peel, present, receiver, asset_params}
 use Rattle.equality.specs.Equality.{expr_eq}
 use Rattle.tokens.specs.Tokens.{differ}
 use Rattle.tokens.specs.Numbers.{token_of}
-use Rattle.fundings.specs.FundingTokens.{funding_token}
+use Rattle.fundings.specs.Fundings.{funding_number}
 
 -- The calls of an entry
 
@@ -25,15 +25,11 @@ first_of p (f ∷ fs) = cond (p f) f (first_of p fs)
 unfoldable pub nameless : Field → Bool
 nameless entry = any (same_bytes []) (asset_params entry)
 
--- the funding token of a debit's map; none where there is no debit
-unfoldable pub map_token : Fields → Field → List ℕ
-map_token model d = cond (present d) (funding_token model (receiver d)) []
+-- the number of the funding token of a debit's map; 0 where there is no debit
+unfoldable pub map_number : List ℕ → Field → ℕ
+map_number file d = cond (present d) (funding_number file (receiver d)) 0
 
 -- Tokens and their numbers
-
--- the number of a known token, or 0
-pub record Named (file : List ℕ) (k : ℕ) : Type 0 where
-  pub named : known (token_of file k) ≡ not (eqb k 0)
 
 -- the number of the token found so far: that of a known token, or 1 where there is none
 pub record Found (file : List ℕ) (k : ℕ) : Type 0 where
@@ -45,6 +41,6 @@ pub record Found (file : List ℕ) (k : ℕ) : Type 0 where
 unfoldable pub bars : List ℕ → List ℕ → Bool
 bars found t = not (known t) || differ found t
 
--- the map that was looked up last, where there is one, has the token that was found
-unfoldable pub remembered : Fields → List ℕ → List ℕ → List ℕ
-remembered model last found = cond (known last) (funding_token model last) found
+-- the map that was looked up last, where there is one, has the number that was found
+unfoldable pub remembered : (file last : List ℕ) → ℕ → ℕ
+remembered file last k = cond (known last) (funding_number file last) k

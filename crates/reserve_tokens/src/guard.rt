@@ -1,10 +1,9 @@
 // SPDX-License-Identifier: Apache-2.0 OR MIT
 // The token that the guards of an entry's body name. Clauses play no part.
-ghost use Rattle.std.specs.Prelude.{◌≡◌, ◌≤◌, length, drop};
-ghost use Rattle.fields.specs.Field.{front, part};
-ghost use Rattle.tokens.specs.Numbers.{token_of, Standing};
-ghost use Rattle.reserve_tokens.specs.ReserveTokens.{guard_token, guard_tokens, only};
-ghost use Rattle.reserve_tokens.specs.Reserving.{Named};
+ghost use Rattle.std.specs.Prelude.{◌≡◌, ◌≤◌, length};
+ghost use Rattle.walking.specs.Table.{placed_at};
+ghost use Rattle.tokens.specs.Numbers.{Standing};
+ghost use Rattle.reserve_tokens.specs.Numbers.{guard_number, guard_numbers, only_number};
 
 use fields::bytes::skip;
 use fields::front::{after_front, first_from, is_whole, parts_of, tag_of};
@@ -17,8 +16,7 @@ use walking::peel::peel;
 // an identifier; else 0. The expression stands behind the guard's three-byte head.
 fn guard_number(file: &[u8], at: usize) -> usize
     requires { length file.now ≤ 32768 }
-    ensures reads { token_of file.now result ≡ guard_token (part 0 (front (drop at file.now))) }
-    ensures named { Named file.now result }
+    ensures { result ≡ guard_number file.now (placed_at file.now at) }
 {
     let guard = skip(file, at);
     if !is_whole(parts_of(guard)) {
@@ -37,7 +35,7 @@ fn guard_number(file: &[u8], at: usize) -> usize
 // The number of the token that exactly one guard of the entry at a place names; 0 where none does, or a second.
 pub fn only_guard_number(file: &[u8], place: usize) -> usize
     requires { Standing file.now place 0 }
-    ensures { token_of file.now result ≡ only (guard_tokens (front (drop place file.now))) }
+    ensures { result ≡ only_number (guard_numbers file.now (placed_at file.now place)) }
 {
     let parts = parts_of(skip(file, place));
     let mut found = 0;

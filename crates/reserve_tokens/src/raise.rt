@@ -4,13 +4,14 @@
 ghost use Rattle.std.specs.Prelude.{◌≡◌, cond, [], ◌∷◌, ◌≤◌, length, drop};
 ghost use Rattle.fields.specs.Table.{fields_at};
 ghost use Rattle.laws.specs.Lists.{any};
-ghost use Rattle.fields.specs.Field.{fields, front};
+ghost use Rattle.fields.specs.Field.{front};
+ghost use Rattle.walking.specs.Table.{placed_at};
 ghost use Rattle.tokens.specs.Tokens.{is_inflow, is_credit};
 ghost use Rattle.tokens.specs.Numbers.{token_of};
-ghost use Rattle.fundings.specs.FundingTokens.{funding_token};
+ghost use Rattle.fundings.specs.Fundings.{funding_number};
 ghost use Rattle.fundings.specs.Funded.{Funded};
-ghost use Rattle.reserve_tokens.specs.ReserveTokens.{raise_token};
-ghost use Rattle.reserve_tokens.specs.Reserving.{with_amount, nameless, map_token, Found, bars};
+ghost use Rattle.reserve_tokens.specs.Reserving.{with_amount, nameless, map_number, Found, bars};
+ghost use Rattle.reserve_tokens.specs.Numbers.{raise_number};
 ghost use Rattle.reserve_tokens.specs.Agreeing.{agreed_with, Agrees, Agreeing, RaisesOf};
 
 use super::calls::{first_debit, is_credited};
@@ -74,7 +75,7 @@ fn map_number(file: &[u8], map: &[u8], agreed: Agreed, facts: &[u16]) -> usize
     requires short { length file.now ≤ 32768 }
     requires funded { Funded file.now facts.now }
     requires agreed { Agrees file.now agreed }
-    ensures { token_of file.now result ≡ funding_token (fields file.now) map.now }
+    ensures { result ≡ funding_number file.now map.now }
 {
     let last = receiver(skip(file, agreed.debit));
     if (0 < last.len()) & same_bytes(last, map) {
@@ -121,7 +122,7 @@ fn after_debit(file: &[u8], debit: usize, agreed: Agreed, facts: &[u16]) -> Agre
     requires short { length file.now ≤ 32768 }
     requires funded { Funded file.now facts.now }
     requires agreed { Agrees file.now agreed }
-    ensures { Agreeing file.now agreed (map_token (fields file.now) (front (drop debit file.now)) ∷ []) result }
+    ensures { Agreeing file.now agreed (map_number file.now (front (drop debit file.now)) ∷ []) result }
 {
     let call = skip(file, debit);
     if !is_present(call) {
@@ -149,7 +150,7 @@ pub fn after_raise(
 ) -> Agreed
     requires entry { RaisesOf file.now facts.now entry calls.now }
     requires agreed { Agrees file.now agreed }
-    ensures { Agreeing file.now agreed (raise_token (fields file.now) (front (drop entry.place file.now)) (front amount.now) ∷ []) result }
+    ensures { Agreeing file.now agreed (raise_number file.now (placed_at file.now entry.place) (front amount.now) ∷ []) result }
 {
     if comes_in(skip(file, entry.place), amount, entry.unnamed) {
         let number = inflow_number(file, amount, entry.guard, calls);

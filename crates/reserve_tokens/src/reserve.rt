@@ -1,21 +1,25 @@
 // SPDX-License-Identifier: Apache-2.0 OR MIT
 // The token that a state field holds: all raises of it, in all entries, have one token. It is known by its number, so that it can
 // be remembered for the whole file.
-ghost use Rattle.std.specs.Prelude.{◌≡◌, ◌*◌, ◌≤◌, ◌<◌, length, drop};
-ghost use Rattle.fields.specs.Field.{fields, front};
-ghost use Rattle.tokens.specs.Tokens.{single};
-ghost use Rattle.tokens.specs.Numbers.{token_of, Standing};
+ghost use Rattle.std.specs.Prelude.{◌≡◌, ◌*◌, ◌≤◌, length, take, drop};
+ghost use mathlib.Core.List.{flat_map};
+ghost use Rattle.fields.specs.Field.{fields};
+ghost use Rattle.model.specs.Model.{entries};
+ghost use Rattle.walking.specs.Table.{placed_at};
+ghost use Rattle.tokens.specs.Numbers.{Standing};
+ghost use Rattle.tokens.specs.Place.{token_place};
 ghost use Rattle.fundings.specs.Funded.{Funded};
-ghost use Rattle.reserve_tokens.specs.ReserveTokens.{raise_tokens, reserve_token};
-ghost use Rattle.reserve_tokens.specs.Agreeing.{tokens_in, Agrees, Agreeing, RaisesOf};
+ghost use Rattle.reserve_tokens.specs.ReserveTokens.{reserve_token};
+ghost use Rattle.reserve_tokens.specs.Numbers.{numbers_in, agreed, reserve_number};
+ghost use Rattle.reserve_tokens.specs.Agreeing.{Agrees, Agreeing, RaisesOf};
 
 use super::guard::only_guard_number;
 use super::raise::{Agreed, Raising, after_raise, has_unnamed};
 use fields::bytes::skip;
-use fields::front::{after_front, is_whole, parts_of};
-use raises::raise::{first_raise, first_raising, next_raise, raised_by};
+use fields::front::{after_front, first_from, is_whole, parts_of};
+use raises::raise::{first_raise, has_raise, next_raise, raised_by};
 use raises::zero::starts_at_zero;
-use tags::CALL;
+use tags::{CALL, ENTRY};
 use tokens::number::token_of;
 use walking::walk::list_body;
 
@@ -31,7 +35,7 @@ fn after_raises(
 ) -> Agreed
     requires entry { RaisesOf file.now facts.now entry calls.now }
     requires before { Agrees file.now before }
-    ensures { Agreeing file.now before (tokens_in (fields file.now) name.now (front (drop entry.place file.now))) result }
+    ensures { Agreeing file.now before (numbers_in file.now name.now (placed_at file.now entry.place)) result }
 {
     let mut agreed = before;
     let mut t = first_raise(parts_of(skip(file, entry.place)), name);
@@ -61,8 +65,11 @@ fn after_entry(
     requires funded { Funded file.now facts.now }
     requires before { Agrees file.now before }
     requires room { length file.now ≤ 3 * length scratch.old }
-    ensures { Agreeing file.now before (tokens_in (fields file.now) name.now (front (drop place file.now))) result }
+    ensures { Agreeing file.now before (numbers_in file.now name.now (placed_at file.now place)) result }
 {
+    if !has_raise(skip(file, place), name) {
+        return before;
+    }
     let count = list_body(file, place, CALL, scratch);
     let entry = Raising {
         place: place,
@@ -77,21 +84,20 @@ fn raises_number(file: &[u8], name: &[u8], facts: &[u16], scratch: &mut [u16]) -
     requires short { length file.now ≤ 32768 }
     requires funded { Funded file.now facts.now }
     requires room { length file.now ≤ 3 * length scratch.old }
-    ensures reads { token_of file.now result ≡ single (raise_tokens (fields file.now) name.now) }
-    ensures small { result < 65536 }
+    ensures { result ≡ agreed file.now 1 (flat_map (numbers_in file.now name.now) (entries (fields file.now))) }
 {
     let mut agreed = Agreed {
         number: 1,
         debit: file.len(),
     };
-    let mut t = first_raising(file, name);
+    let mut t = first_from(file, ENTRY, ENTRY);
     while is_whole(t) {
         let next = after_entry(file, file.len() - t.len(), name, facts, agreed, scratch);
         if next.number == 0 {
             return 1;
         }
         agreed = next;
-        let u = first_raising(after_front(t), name);
+        let u = first_from(after_front(t), ENTRY, ENTRY);
         t = u;
     }
     agreed.number
@@ -103,12 +109,11 @@ pub fn reserve_number(file: &[u8], name: &[u8], facts: &[u16], scratch: &mut [u1
     requires short { length file.now ≤ 32768 }
     requires funded { Funded file.now facts.now }
     requires room { length file.now ≤ 3 * length scratch.old }
-    ensures reads { token_of file.now result ≡ reserve_token (fields file.now) name.now }
-    ensures small { result < 65536 }
+    ensures { result ≡ reserve_number file.now name.now }
 {
     let number = raises_number(file, name, facts, scratch);
-    if number < 2 {
-        return number;
+    if number == 1 {
+        return 1;
     }
     if !starts_at_zero(file, name) {
         return 1;
@@ -126,7 +131,8 @@ pub fn reserve_token<'a>(
     requires short { length file.now ≤ 32768 }
     requires funded { Funded file.now facts.now }
     requires room { length file.now ≤ 3 * length scratch.old }
-    ensures { result.now ≡ reserve_token (fields file.now) name.now }
+    ensures reads { result.now ≡ reserve_token (fields file.now) name.now }
+    ensures shows { result.now ≡ take (length result.now) (drop (token_place file.now (reserve_number file.now name.now)) file.now) }
 {
     token_of(file, reserve_number(file, name, facts, scratch))
 }

@@ -1,5 +1,5 @@
 -- The definitions computed on examples: which conditions name a token, where it stands, and which number a set of tokens has.
-use Rattle.std.proofs.Common.{ℕ, ◌≡◌, refl, List, [], ◌∷◌, ◌++◌, map, length}
+use Rattle.std.proofs.Common.{ℕ, ◌≡◌, refl, List, [], ◌∷◌, ◌++◌, map}
 use Prim.Native.String.{String}
 use mathlib.Core.List.{flat_map}
 use Rattle.laws.specs.Lists.{all, filter}
@@ -11,7 +11,7 @@ use Rattle.walking.specs.Walking.{peel, peel_first, peel_place, peel_first_place
 use Rattle.conditions.specs.Conditions.{split_and, split_each, split_first, negated, negated_each, negated_first, conditions_of, required_conditions, opposite, operator}
 use Rattle.tokens.specs.Tokens.{single, beside_in_asset, token_named, tokens_named, admitted_inflow_token}
 use Rattle.tokens.specs.Numbers.{token_of, joined, joined_all, condition_number, tokens_number}
-use Rattle.tokens.specs.Place.{beside_place, found_in, found_of, first_place, admitted_place}
+use Rattle.tokens.specs.Place.{beside_place, token_place}
 
 abbrev in_asset : List ℕ
 in_asset = write InAsset []
@@ -60,17 +60,18 @@ naming-none : admitted
 unfolding admitted
 naming-none = refl
 
--- where the token stands: behind in-asset and its own head, on the left side, inside wrappers, in the first condition that names it
+-- where the token stands that an entry names: behind in-asset and its own head, on the left side, inside wrappers, in the first
+-- condition that names it
 places : List (List ℕ) → List ℕ
-unfolding filter known fields fields_to nth composite size sizes placed placed_from place_of flat_map is_wrapper peel peel_first
+unfolding all filter same_bytes known fields fields_to nth composite size sizes placed placed_from place_of flat_map is_wrapper peel peel_first
     peel_place peel_first_place ident split_and split_each split_first negated negated_each negated_first conditions_of required_conditions
-    opposite operator beside_in_asset token_named beside_place found_in found_of first_place admitted_place
-places cs = map (λ c. admitted_place (length (entry c)) (front (entry c))) cs
+    opposite operator beside_in_asset token_named token_of joined joined_all condition_number tokens_number beside_place token_place
+places cs = map (λ c. token_place (entry c) (tokens_number (entry c) (record { place = 0; this = front (entry c) }))) cs
 
 standing : places
     (limits (holds "T") ∷ guard (write Eq (identifier "T" ++ in_asset)) ∷ guard (write Eq (write Checked in_asset ++ write Wrapping (identifier "T")))
-    ∷ (guard x ++ guard (holds "T")) ∷ (limits (holds "T") ++ guard (holds "T")) ∷ guard x ∷ [])
-    ≡ 19 ∷ 16 ∷ 25 ∷ 26 ∷ 19 ∷ 0 ∷ []
+    ∷ (guard x ++ guard (holds "T")) ∷ (limits (holds "T") ++ guard (holds "T")) ∷ [])
+    ≡ 19 ∷ 16 ∷ 25 ∷ 26 ∷ 19 ∷ []
 unfolding places
 standing = refl
 

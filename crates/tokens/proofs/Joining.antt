@@ -63,6 +63,12 @@ unfolding joined_all
 all-several file [] = refl
 all-several file (b ∷ bs) = ap (λ k. joined_all file k bs) (joined-several file b) ∙ all-several file bs
 
+-- one list behind another
+pub joined-append : (file : List ℕ) (a : ℕ) (bs cs : List ℕ) → joined_all file a (bs ++ cs) ≡ joined_all file (joined_all file a bs) cs
+unfolding joined_all
+joined-append file a [] cs = refl
+joined-append file a (b ∷ bs) cs = joined-append file (joined file a b) bs cs
+
 -- with the same once more nothing changes
 pub joined-again : (file : List ℕ) (a b : ℕ) → joined file (joined file a b) b ≡ joined file a b
 joined-again file a b = go (eqb b 0) (eqb a 0) (same_bytes (token_of file a) (token_of file b)) refl refl refl
@@ -112,7 +118,7 @@ means-token file k (x ∷ xs) e = go (all (same_bytes x) xs) e
     go false f = rw f (several-none file)
 
 -- a number with a token is that of a place in the file
-nothing-beside : beside_in_asset (front []) ≡ []
+pub nothing-beside : beside_in_asset (front []) ≡ []
 unfolding beside_in_asset peel nth is_wrapper
 nothing-beside = rw (front-none [] refl)
 

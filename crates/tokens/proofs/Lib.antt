@@ -3,3 +3,4 @@ pub mod Examples
 pub mod Shown
 pub mod Joining
 pub mod Numbers
+pub mod Searching

@@ -1,24 +1,22 @@
 -- An entry's number stands for the tokens that its conditions name: each condition stands in the file, and so does the token.
-use Rattle.std.proofs.Common.{ℕ, ◌+◌, ◌-◌, ◌%◌, ◌≤◌, ◌<◌, ◌≡◌, refl, sym, ◌∙◌, Bool, true, false, cond, List, [], ◌∷◌, ◌++◌, map, arith, le-leb, eqb, length, get_or, take, drop, length-drop}
+use Rattle.std.proofs.Common.{ℕ, ◌+◌, ◌-◌, ◌%◌, ◌≤◌, ◌<◌, ◌≡◌, refl, sym, ◌∙◌, Bool, true, false, cond, List, [], ◌∷◌, ◌++◌, map, arith, le-leb, eqb, length, get_or, take, drop}
 use Rattle.std.proofs.Common.{drop_of_length-le, length-take-le, get_or-take, drop-drop}
 use mathlib.Core.List.{flat_map}
-use lib.Seq.{length-sets}
 use Rattle.laws.specs.Lists.{all, filter}
 use Rattle.laws.specs.Texts.{known}
 use Rattle.laws.proofs.Lists.{Every}
 use Rattle.laws.proofs.Slices.{drop-step}
 use Rattle.laws.proofs.Texts.{unknown, is_known}
 use Rattle.tags.specs.Tag.{Eq}
-use Rattle.fields.specs.Table.{Listed}
 use Rattle.fields.specs.Field.{Placed, front}
 use Rattle.fields.proofs.Inside.{Stands}
-use Rattle.walking.specs.Table.{most_fields, placed_at}
+use Rattle.walking.specs.Table.{placed_at}
 use Rattle.conditions.specs.Conditions.{Condition, required_conditions, operator}
-use Rattle.conditions.specs.Table.{marks, condition_at}
-use Rattle.conditions.proofs.Callers.{Holds, conditions-stand, table-wide, table-read}
+use Rattle.conditions.specs.Table.{condition_at}
+use Rattle.conditions.proofs.Callers.{Holds, conditions-stand}
 use Rattle.tokens.specs.Tokens.{beside_in_asset, token_named, tokens_named, admitted_inflow_token}
 use Rattle.tokens.specs.Numbers.{token_at}
-use Rattle.tokens.specs.Numbers.{token_of, joined, joined_all, condition_number, tokens_number, ConditionsOf, Standing}
+use Rattle.tokens.specs.Numbers.{token_of, joined, joined_all, condition_number, tokens_number, Standing}
 use Rattle.tokens.proofs.Joining.{Means, means-token, means-all, means-small, all-several}
 
 -- What the code tests
@@ -88,10 +86,14 @@ unfolding tokens_number
 entry-means file p s = entry-joined file p s 0 [] refl
 
 -- so the token that it stands for is the one that the entry admits
-pub number-token : (s : List ℕ) (k : ℕ) → k ≡ tokens_number s (placed_at s 0) → (r : List ℕ) → r ≡ token_of s k → r ≡ admitted_inflow_token (front s)
+pub number-token : (file : List ℕ) (n k : ℕ) → k ≡ tokens_number file (placed_at file n) → (r : List ℕ) → r ≡ token_of file k →
+    r ≡ admitted_inflow_token (front (drop n file))
 unfolding admitted_inflow_token
-number-token s k e r f =
-    f ∙ rw e (means-token s (tokens_number s (placed_at s 0)) (tokens_named (front s)) (entry-means s (placed_at s 0) refl))
+number-token file n k e r f =
+    f ∙ rw e (means-token file (tokens_number file (placed_at file n)) (tokens_named (front (drop n file))) (entry-means file (placed_at file n) refl))
+
+pub front-token : (s : List ℕ) (k : ℕ) → k ≡ tokens_number s (placed_at s 0) → (r : List ℕ) → r ≡ token_of s k → r ≡ admitted_inflow_token (front s)
+front-token s k e r f = number-token s 0 k e r f
 
 pub number_small : (file : List ℕ) (n j : ℕ) → Standing file n j → (r : ℕ) → r ≡ tokens_number file (placed_at file n) → r < 65536
 number_small file n j h r e =
@@ -130,46 +132,27 @@ unfolding mark_number
 mapped-marks entry n [] = refl
 mapped-marks entry n (k ∷ ks) = rw (mapped-marks entry n ks)
 
-module _ (file : List ℕ) (n : ℕ) (s : List ℕ) (e : s ≡ drop n file) where
-  module _ (h : Standing file n 0) (zeros table : List ℕ) (count : ℕ) (l : Listed (marks (required_conditions (front s))) zeros 0 table count) where
-    short : length s ≤ 32768
-    short = rw (e, length-drop n file) (omega (arith, h.short))
+module _ (file : List ℕ) (n : ℕ) (s : List ℕ) (e : s ≡ drop n file) (l : List ℕ) (count : ℕ) where
+  -- from a set on, where the table holds the conditions
+  pub joining-from : (cs : List Condition) → count ≤ length l → map (condition_at (drop n file)) (take count l) ≡ cs → (a : ℕ) →
+      Joining (mark_number s n) file l count (joined_all file a (map (condition_number n) cs)) 0 a
+  joining-from cs room read a = record {
+    within = omega arith;
+    room = room;
+    left = rw (e, mapped-marks (drop n file) n (take count l), read);
+  }
 
-    -- a table that has room for all conditions holds them in front
-    pub conditions-fit : count ≤ length zeros → ConditionsOf (drop n file) table count
-    conditions-fit m =
-        let w : length table ≡ length zeros = rw l.kept (length-sets zeros 0 (marks (required_conditions (front s)))) in
-        record { room = omega arith; read = rw (← e) (table-read s zeros table count l short m) }
+  module _ (r i found : ℕ) (v : Joining (mark_number s n) file l count r i found) (o : i < count) (k : ℕ) (f : k ≡ get_or l i 0)
+      (b : ℕ) (g : b ≡ condition_number n (condition_at s k)) (u : ℕ) (q : u ≡ joined file found b) where
+    named_here : b ≡ mark_number s n (get_or l i 0)
+    unfolding mark_number
+    named_here = rw (← f) g
 
-    -- as one of this length has
-    pub conditions-all : length zeros ≡ most_fields → ConditionsOf (drop n file) table count
-    conditions-all k = conditions-fit (table-wide s zeros table count l (omega (arith, short)))
+    pub joining-on : Joining (mark_number s n) file l count r (i + 1) u
+    joining-on = joining-step (mark_number s n) file l count r i found v o b named_here u q
 
-  module _ (l : List ℕ) (count : ℕ) where
-    -- from a set on
-    pub joining-from : ConditionsOf (drop n file) l count → (a : ℕ) →
-        Joining (mark_number s n) file l count (joined_all file a (map (condition_number n) (required_conditions (front (drop n file))))) 0 a
-    joining-from c a = record {
-      within = omega arith;
-      room = c.room;
-      left = rw (e, mapped-marks (drop n file) n (take count l), c.read);
-    }
-
-    pub joining-all : ConditionsOf (drop n file) l count → Joining (mark_number s n) file l count (tokens_number file (placed_at file n)) 0 0
-    unfolding tokens_number
-    joining-all c = joining-from c 0
-
-    module _ (r i found : ℕ) (v : Joining (mark_number s n) file l count r i found) (o : i < count) (k : ℕ) (f : k ≡ get_or l i 0)
-        (b : ℕ) (g : b ≡ condition_number n (condition_at s k)) (u : ℕ) (q : u ≡ joined file found b) where
-      named_here : b ≡ mark_number s n (get_or l i 0)
-      unfolding mark_number
-      named_here = rw (← f) g
-
-      pub joining-on : Joining (mark_number s n) file l count r (i + 1) u
-      joining-on = joining-step (mark_number s n) file l count r i found v o b named_here u q
-
-      -- two that differ stay so
-      pub joining-several : u ≡ 1 → r ≡ 1
-      joining-several d =
-          sym (joining-here (mark_number s n) file l count r i found v o b named_here u q)
-          ∙ rw d (all-several file (map (mark_number s n) (drop (i + 1) (take count l))))
+    -- two that differ stay so
+    pub joining-several : u ≡ 1 → r ≡ 1
+    joining-several d =
+        sym (joining-here (mark_number s n) file l count r i found v o b named_here u q)
+        ∙ rw d (all-several file (map (mark_number s n) (drop (i + 1) (take count l))))

@@ -1,9 +1,9 @@
 -- A set of tokens is a number: 0 it is empty, 1 it has two that differ, p + 2 it has one token, which the comparison at place p of
 -- the file names.
-use Rattle.std.specs.Prelude.{ℕ, ◌+◌, ◌-◌, ◌≤◌, ◌≡◌, cond, List, [], ◌∷◌, map, eqb, leb, length, take, drop}
+use Rattle.std.specs.Prelude.{ℕ, ◌+◌, ◌-◌, ◌≤◌, cond, List, [], ◌∷◌, map, eqb, leb, length, drop}
 use Rattle.laws.specs.Texts.{same_bytes, known}
-use Rattle.fields.specs.Field.{Placed, front}
-use Rattle.conditions.specs.Conditions.{Condition, required_conditions}
+use Rattle.fields.specs.Field.{Placed, front, parts}
+use Rattle.conditions.specs.Conditions.{Condition, conditions_from, required_conditions}
 use Rattle.conditions.specs.Table.{condition_at}
 use Rattle.tokens.specs.Tokens.{beside_in_asset, token_named}
 
@@ -28,20 +28,17 @@ joined_all file a (b ∷ bs) = joined_all file (joined file a b) bs
 unfoldable pub condition_number : ℕ → Condition → ℕ
 condition_number n c = cond (known (token_named c)) (n + c.place + 2) 0
 
+-- a set, with what the conditions of an entry name, of those clauses or guards whose tags are from `low` to `high`
+unfoldable pub joined_from : List ℕ → (low high : ℕ) → Placed → ℕ → ℕ
+joined_from file low high entry a = joined_all file a (map (condition_number entry.place) (conditions_from low high 3 (parts entry.this)))
+
 -- what an entry names
 unfoldable pub tokens_number : List ℕ → Placed → ℕ
 tokens_number file entry = joined_all file 0 (map (condition_number entry.place) (required_conditions entry.this))
 
--- The conditions of an entry by a table
-
 -- the token that a number of the table of an entry's conditions stands for
 unfoldable pub token_at : List ℕ → ℕ → List ℕ
 token_at entry k = token_named (condition_at entry k)
-
--- the first `count` numbers of a table stand for the conditions of an entry, with which this part of the file starts
-pub record ConditionsOf (entry table : List ℕ) (count : ℕ) : Type 0 where
-  pub room : count ≤ length table
-  pub read : map (condition_at entry) (take count table) ≡ required_conditions (front entry)
 
 -- the entry stands in a file that passes question 1, where n numbers were listed before
 pub record Standing (file : List ℕ) (place n : ℕ) : Type 0 where

@@ -1,27 +1,26 @@
 // SPDX-License-Identifier: Apache-2.0 OR MIT
 // A set of tokens as one number, and the set that an entry names.
-ghost use Rattle.std.specs.Prelude.{◌≡◌, ◌≤◌, ◌<◌, drop};
+ghost use Rattle.std.specs.Prelude.{◌≡◌, ◌*◌, ◌≤◌, length, take, drop};
 ghost use Rattle.laws.specs.Texts.{same_bytes};
 ghost use Rattle.walking.specs.Table.{placed_at};
 ghost use Rattle.conditions.specs.Table.{condition_at};
-ghost use Rattle.tokens.specs.Numbers.{token_of, joined, condition_number, tokens_number, ConditionsOf, Standing};
+ghost use Rattle.tokens.specs.Numbers.{token_of, joined, condition_number, joined_from, tokens_number, Standing};
+ghost use Rattle.tokens.specs.Place.{token_place};
 
 use super::naming::{beside_in_asset, token_at};
 use conditions::list::list_conditions;
 use fields::bytes::{same_bytes, skip};
+use fields::front::{after_front, first_from, is_whole, parts_of};
 use fields::table::number_at;
-use walking::walk::MOST_FIELDS;
+use tags::{DENIES, GUARD, LIMITS};
 
 // What is not worked out yet: no place, no count and no set of tokens has this number.
 pub const NOT_YET: usize = 65535;
 
-// Almost every entry has a handful of conditions or calls, and a table for those of any entry takes longer to clear than they take
-// to list: it is made only where they do not fit into a small one, of this size.
-pub const FEW: usize = 256;
-
 // The one token of a set; no bytes where it is empty or has two that differ.
 pub fn token_of(file: &[u8], number: usize) -> &[u8]
-    ensures { result.now ≡ token_of file.now number }
+    ensures reads { result.now ≡ token_of file.now number }
+    ensures shows { result.now ≡ take (length result.now) (drop (token_place file.now number) file.now) }
 {
     if number < 2 {
         return &file[..0];
@@ -66,36 +65,53 @@ pub fn condition_number(entry: &[u8], place: usize, mark: usize) -> usize
     place + mark % 32768 + 2
 }
 
-// The set of tokens that the entry at a place names, whose conditions the first numbers of a table stand for.
-fn tokens_number_among(file: &[u8], place: usize, table: &[u16], count: usize) -> usize
+// The set found before, with what the conditions of an entry name, of those clauses or guards whose tags are from low to high.
+// Condition by condition, and in each part by part, the search ends where two tokens differ.
+fn joined_from(
+    file: &[u8],
+    place: usize,
+    low: u8,
+    high: u8,
+    before: usize,
+    table: &mut [u16],
+) -> usize
     requires standing { Standing file.now place 0 }
-    requires listed { ConditionsOf (drop place file.now) table.now count }
-    ensures { result ≡ tokens_number file.now (placed_at file.now place) }
+    requires room { length file.now ≤ 3 * length table.old }
+    ensures { result ≡ joined_from file.now low high (placed_at file.now place) before }
 {
     let entry = skip(file, place);
-    let mut number = 0;
-    let mut i = 0;
-    while i < count {
-        let named = condition_number(entry, place, number_at(table, i));
-        number = join(file, number, named);
-        i += 1;
+    let parts = parts_of(entry);
+    let mut found = before;
+    let mut t = first_from(parts, low, high);
+    'search: loop {
+        if !is_whole(t) {
+            break found;
+        }
+        let count = list_conditions(t, 3 + (parts.len() - t.len()), table);
+        let mut i = 0;
+        while i < count {
+            let named = condition_number(entry, place, number_at(table, i));
+            found = join(file, found, named);
+            if found == 1 {
+                break 'search 1;
+            }
+            i += 1;
+        }
+        let u = first_from(after_front(t), low, high);
+        t = u;
     }
-    number
 }
 
-// The same with no table at hand.
-pub fn tokens_number(file: &[u8], place: usize) -> usize
-    requires { Standing file.now place 0 }
-    ensures reads { result ≡ tokens_number file.now (placed_at file.now place) }
-    ensures small { result < 65536 }
+// The set of tokens that the entry at a place names: what its clauses name, and then its guards. The lent table has a number for
+// each three bytes of the file, and serves for the parts of a condition.
+pub fn tokens_number(file: &[u8], place: usize, table: &mut [u16]) -> usize
+    requires standing { Standing file.now place 0 }
+    requires room { length file.now ≤ 3 * length table.old }
+    ensures { result ≡ tokens_number file.now (placed_at file.now place) }
 {
-    let entry = skip(file, place);
-    let mut few = [0u16; FEW];
-    let count = list_conditions(entry, &mut few);
-    if count <= FEW {
-        return tokens_number_among(file, place, &few, count);
+    let named = joined_from(file, place, LIMITS, DENIES, 0, table);
+    if named == 1 {
+        return 1;
     }
-    let mut many = [0u16; MOST_FIELDS];
-    let all = list_conditions(entry, &mut many);
-    tokens_number_among(file, place, &many, all)
+    joined_from(file, place, GUARD, GUARD, named, table)
 }

@@ -1,33 +1,23 @@
--- The conditions of the clauses, and behind them those of the guards; those of the clauses are so few that both can be counted.
-use Rattle.std.proofs.Common.{ℕ, ◌-◌, ◌^◌, ◌<◌, ◌≤◌, ◌≡◌, List, arith, rules, length, take, drop, length-take, length-drop}
-use mathlib.Core.List.{map-append}
-use lib.ListN.{length-map}
-use Rattle.fields.specs.Field.{fields, front, parts, sizes}
-use Rattle.fields.specs.Table.{Listed, Room}
-use Rattle.fields.proofs.Places.{tree-size}
-use Rattle.fields.proofs.Tables.{listed_then}
-use Rattle.conditions.specs.Conditions.{conditions_from, required_conditions}
-use Rattle.conditions.specs.Table.{mark, marks}
-use Rattle.conditions.proofs.Few.{clauses-few}
+-- A denial is negated, and a limit or a guard stands as it is: the expression is behind the head.
+use Rattle.std.proofs.Common.{ℕ, ◌+◌, ◌≡◌, cond, List, eqb}
+use Rattle.fields.specs.Field.{fields, front, tag, parts}
+use Rattle.fields.specs.Table.{Listed}
+use Rattle.fields.proofs.Listing.{down_fits, down-same}
+use Rattle.conditions.specs.Conditions.{split_first, negated_first, conditions_of}
+use Rattle.conditions.specs.Table.{marks, conditions_at}
 use Rattle.conditions.proofs.list.list_conditions.Goals as goal
 
-module _ (x t u : List ℕ) (n : ℕ) (p : Listed (marks (conditions_from 5 6 3 (fields x))) t 0 u n) where
-  guards-room : (s : List ℕ) → length s < 2 ^ 64 → x ≡ take (sizes (parts (front s))) (drop 3 s) → Room x 3 n
-  guards-room s h f =
-      let l : length x ≤ length s - 3 = rw (f, length-take, length-drop) (omega arith) in
-      record {
-        place = omega arith;
-        count = omega (arith, p.count, length-map (conditions_from 5 6 3 (fields x)) mark, clauses-few 3 (fields x), tree-size x);
-      }
+pub here_listed : (s : List ℕ) (n g : ℕ) → g ≡ tag (front s) → (x : List ℕ) → fields x ≡ parts (front s) → (t u : List ℕ) (k : ℕ) →
+    Listed (marks (cond (eqb g 6) (negated_first (n + 3) (fields x)) (split_first (n + 3) (fields x)))) t 0 u k →
+    Listed (marks (conditions_at s n)) t 0 u k
+unfolding conditions_at conditions_of
+here_listed s n g e x f t u k p = rw (← e, ← f) p
 
-  all_listed : (s : List ℕ) → fields x ≡ parts (front s) → (v : List ℕ) (r : ℕ) → Listed (marks (conditions_from 16 16 3 (fields x))) u n v r →
-      Listed (marks (required_conditions (front s))) t 0 v r
-  unfolding required_conditions
-  all_listed s f v r q =
-      rw (← f, map-append mark (conditions_from 5 6 3 (fields x)) (conditions_from 16 16 3 (fields x))) (listed_then _ _ t u v 0 n r p q)
+pub overflow_add-at : goal.overflow_add-at
+overflow_add-at c = search down_fits
 
-pub list_from-requires : goal.list_from-requires
-list_from-requires c = search (guards-room, rules)
+pub list_first-requires : goal.list_first-requires
+list_first-requires c = search down-same
 
 pub returns : goal.returns
-returns c = search all_listed
+returns c = search here_listed

@@ -1,5 +1,5 @@
--- The listed calls have the set of the tokens of all entries that fund the map.
-use Rattle.fundings.proofs.Through.{through-fits, through-room, through-listed, through-small}
+-- What is found through the listed calls is the set of all.
+use Rattle.fundings.proofs.Through.{through-fits, through-room, through-listed}
 use Rattle.fundings.proofs.facts.funding_number.Goals as goal
 
 pub overflow_add-count : goal.overflow_add-count
@@ -8,8 +8,5 @@ overflow_add-count c = search through-fits
 pub slice_bounds-found_through-end : goal.slice_bounds-found_through-end
 slice_bounds-found_through-end c = search through-room
 
-pub returns-clause-reads : goal.returns-clause-reads
-returns-clause-reads c = search through-listed
-
-pub returns-clause-small : goal.returns-clause-small
-returns-clause-small c = search through-small
+pub returns : goal.returns
+returns c = search through-listed

@@ -1,4 +1,4 @@
--- The number stands for the token, which stands where the definition says.
+-- The number stands for the token, and shows it where it stands.
 use Rattle.fundings.proofs.Shown.{funding-read, funding-there}
 use Rattle.fundings.proofs.token.ledger_funding_token.Goals as goal
 

@@ -1,4 +1,4 @@
--- The token found so far and those of the guards ahead have the only one; a second leaves none.
+-- The number found so far and those of the guards ahead have the only one; a second leaves none.
 use Rattle.laws.proofs.Told.{told_is}
 use Rattle.fields.proofs.Rows.{from_less}
 use Rattle.reserve_tokens.proofs.Guarding.{guarding-all, guarding-end, guarding-second, guarding-on}

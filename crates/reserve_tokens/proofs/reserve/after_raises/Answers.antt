@@ -1,4 +1,4 @@
--- Raise by raise, the token agreed on so far and those ahead have the one token of all; one that bars the field leaves none.
+-- Raise by raise, the number agreed on so far and those ahead agree on that of all; one that bars the field leaves none.
 use Rattle.laws.proofs.Told.{told_is}
 use Rattle.reserve_tokens.proofs.Reserving.{raises-all, raises-barred, raises-on, raises-done, ahead-less}
 use Rattle.reserve_tokens.proofs.reserve.after_raises.Goals as goal

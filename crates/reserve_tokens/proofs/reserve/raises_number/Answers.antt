@@ -1,6 +1,7 @@
--- Entry by entry, the token agreed on so far and those ahead have the one token of all; one that bars the field leaves none.
+-- Entry by entry, the number agreed on so far and those ahead agree on that of all; one that bars the field leaves none.
 use Rattle.laws.proofs.Told.{told_is}
-use Rattle.reserve_tokens.proofs.Reserving.{entries-all, entry_here, entry-barred, entries-on, entries-end, behind-less}
+use Rattle.fields.proofs.Rows.{from_less}
+use Rattle.reserve_tokens.proofs.Reserving.{entries-all, entry_here, entry-barred, entries-on, entries-end}
 use Rattle.reserve_tokens.proofs.reserve.raises_number.Goals as goal
 
 pub loop-t-init : goal.loop-t-init
@@ -9,14 +10,14 @@ loop-t-init c = search entries-all
 pub after_entry-next-requires-clause-standing : goal.after_entry-next-requires-clause-standing
 after_entry-next-requires-clause-standing c = search entry_here
 
-pub returns-then-next-eq0-clause-reads : goal.returns-then-next-eq0-clause-reads
-returns-then-next-eq0-clause-reads c = search (entry-barred, told_is)
+pub returns-then-next-eq0 : goal.returns-then-next-eq0
+returns-then-next-eq0 c = search (entry-barred, told_is)
 
 pub loop-t-smaller : goal.loop-t-smaller
-loop-t-smaller c = search (behind-less, told_is)
+loop-t-smaller c = search (from_less, told_is)
 
 pub loop-t-preserved : goal.loop-t-preserved
 loop-t-preserved c = search (entries-on, told_is)
 
-pub returns-clause-reads : goal.returns-clause-reads
-returns-clause-reads c = search (entries-end, told_is)
+pub returns : goal.returns
+returns c = search (entries-end, told_is)

@@ -1,4 +1,4 @@
--- Entry by entry, the token agreed on so far and those ahead have the one token of all; one that bars the field leaves none.
+-- Entry by entry, the number agreed on so far and those ahead agree on that of all; one that bars the field leaves none.
 use Rattle.std.proofs.Common.{length}
 use Rattle.reserve_tokens.proofs.Reserving.{Entries}
 use Rattle.reserve_tokens.proofs.reserve.raises_number.Given as goal

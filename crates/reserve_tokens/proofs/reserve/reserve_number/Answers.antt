@@ -1,35 +1,33 @@
 -- Without a token that all raises agree on there is none, however the field starts; with one, the start decides.
-use Rattle.std.proofs.Common.{ℕ, ◌<◌, ◌≡◌, sym, ◌∙◌, Bool, true, false, not, List}
+use Rattle.std.proofs.Common.{ℕ, ◌≡◌, refl, ◌∙◌, Bool, true, false, not, List}
+use mathlib.Core.List.{flat_map}
 use borrow.Author.Tests.{not-true, not-false}
 use Rattle.laws.proofs.Truths.{chosen}
 use Rattle.fields.specs.Field.{fields}
-use Rattle.tokens.specs.Tokens.{single}
-use Rattle.tokens.specs.Numbers.{token_of}
-use Rattle.tokens.proofs.Joining.{token-none}
+use Rattle.model.specs.Model.{entries}
 use Rattle.raises.specs.Raises.{starts_at_zero}
-use Rattle.reserve_tokens.specs.ReserveTokens.{raise_tokens, reserve_token}
-use Rattle.reserve_tokens.proofs.Held.{token-none-of}
+use Rattle.reserve_tokens.specs.Numbers.{numbers_in, agreed, reserve_number}
 use Rattle.reserve_tokens.proofs.reserve.reserve_number.Goals as goal
 
-module _ (file name : List ℕ) (n : ℕ) (f : token_of file n ≡ single (raise_tokens (fields file) name)) where
-  none-agreed : n < 2 → token_of file n ≡ reserve_token (fields file) name
-  unfolding reserve_token
-  none-agreed h = chosen (λ t. token_of file n ≡ t) (starts_at_zero (fields file) name) f (sym (token-none file n h))
+module _ (file name : List ℕ) (n : ℕ) (f : n ≡ agreed file 1 (flat_map (numbers_in file name) (entries (fields file)))) where
+  none-agreed : n ≡ 1 → 1 ≡ reserve_number file name
+  unfolding reserve_number
+  none-agreed h = chosen (λ k. 1 ≡ k) (starts_at_zero (fields file) name) (rw (← f, h)) refl
 
   module _ (a : Bool) (e : a ≡ starts_at_zero (fields file) name) where
-    starts-higher : not a ≡ true → token_of file 1 ≡ reserve_token (fields file) name
-    unfolding reserve_token
-    starts-higher h = token-none-of file ∙ rw (← e, not-true a h)
+    starts-higher : not a ≡ true → 1 ≡ reserve_number file name
+    unfolding reserve_number
+    starts-higher h = rw (← e, not-true a h)
 
-    starts-there : not a ≡ false → token_of file n ≡ reserve_token (fields file) name
-    unfolding reserve_token
+    starts-there : not a ≡ false → n ≡ reserve_number file name
+    unfolding reserve_number
     starts-there h = f ∙ rw (← e, not-false a h)
 
-pub returns-then-number-lt2-clause-reads : goal.returns-then-number-lt2-clause-reads
-returns-then-number-lt2-clause-reads c = search none-agreed
+pub returns-then-number-eq1 : goal.returns-then-number-eq1
+returns-then-number-eq1 c = search none-agreed
 
-pub returns-then-not-starts_at_zero-clause-reads : goal.returns-then-not-starts_at_zero-clause-reads
-returns-then-not-starts_at_zero-clause-reads c = search starts-higher
+pub returns-then-not-starts_at_zero : goal.returns-then-not-starts_at_zero
+returns-then-not-starts_at_zero c = search starts-higher
 
-pub returns-clause-reads : goal.returns-clause-reads
-returns-clause-reads c = search starts-there
+pub returns : goal.returns
+returns c = search starts-there

@@ -1,12 +1,9 @@
--- The number stands for the token.
-use Rattle.std.proofs.Common.{◌≡◌, ◌∙◌, List, ℕ}
-use Rattle.fields.specs.Field.{fields}
-use Rattle.tokens.specs.Numbers.{token_of}
-use Rattle.reserve_tokens.specs.ReserveTokens.{reserve_token}
+-- The number stands for the token, and shows it where it stands.
+use Rattle.reserve_tokens.proofs.Numbers.{reserve-read, reserve-there}
 use Rattle.reserve_tokens.proofs.reserve.reserve_token.Goals as goal
 
-token-read : (file name r : List ℕ) (k : ℕ) → token_of file k ≡ reserve_token (fields file) name → r ≡ token_of file k → r ≡ reserve_token (fields file) name
-token-read file name r k e f = f ∙ e
+pub returns-clause-reads : goal.returns-clause-reads
+returns-clause-reads c = search reserve-read
 
-pub returns : goal.returns
-returns c = search token-read
+pub returns-clause-shows : goal.returns-clause-shows
+returns-clause-shows c = search reserve-there
