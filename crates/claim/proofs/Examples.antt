@@ -1,14 +1,16 @@
--- The edges of the rules of tokens, conditions, amounts, bounds and reserves, computed as verdicts.
-use Rattle.std.proofs.Common.{ℕ, ◌≡◌, refl, List, [], ◌∷◌, ◌++◌}
+-- The edges of the rules of tokens, conditions, amounts, bounds and reserves, computed as verdicts; covers as they are written, and
+-- reserves by themselves, computed too.
+use Rattle.std.proofs.Common.{ℕ, ◌≡◌, refl, List, [], ◌∷◌, ◌++◌, replicate}
 use Prim.Native.String.{String}
 use Rattle.tags.specs.Tag.{Genesis, Limits, Denies, Set, AddTo, SubtractFrom, Not, Call, Checked, Wrapping, Or, And, Eq, Ne, Lt, Ge, Add, Sub, Rem, Shr}
 use Rattle.tags.specs.Tag.{String as StringTag}
 use Rattle.fields.proofs.Writing.{write, word, integer, identifier}
-use Rattle.matching.specs.Matching.Cover.{equal_debit, equal_parameter, bounding_debit, reserve}
+use Rattle.matching.specs.Matching.Cover.{equal_debit, equal_parameter, bounding_debit, bounding_parameter, reserve}
 use Rattle.matching.specs.Matching.Reason.{conflict_at_equal, conflict_at_bounding, no_reserve, reserve_used}
-use Rattle.claim.specs.Verdict.{rejected, accepted}
-use Rattle.claim.proofs.Samples.{Row, about, found, stated, entry, one, state, asset, plain, guard, statement, caller}
-use Rattle.claim.proofs.Samples.{in_asset, holds, n, amount, half, less_one, member, debit, send, double, drawing}
+use Rattle.reserves.specs.declared.covering.Reserve.TheVariants.{Covers, Nothing}
+use Rattle.claim.specs.Verdict.{rejected, accepted, written, sheet, kind, index}
+use Rattle.claim.proofs.Samples.{Row, about, found, stated, left, reserve_in, entry, one, state, asset, plain, guard, statement, caller}
+use Rattle.claim.proofs.Samples.{in_asset, holds, n, amount, half, less_one, member, debit, send, double, raising, drawing, k3, k11, k12}
 
 -- an entry that funds the map m in the token t
 abbrev funding : String → List ℕ → List ℕ
@@ -77,3 +79,36 @@ edges =
 edges-hold : found edges ≡ stated edges
 unfolding found edges
 edges-hold = refl
+
+-- the covers of K3: kind 2, index 0, and the rest as it was; of K4, which is rejected, and of K3 with too few lent: as they were
+sheets : left k3 0 (replicate 5 7) ∷ left (entry (asset "a" ++ send (amount "a") ++ send (amount "a"))) 0 (replicate 6 7)
+    ∷ left k3 0 (replicate 2 7) ∷ []
+    ≡ (2 ∷ 0 ∷ 0 ∷ 7 ∷ 7 ∷ []) ∷ replicate 6 7 ∷ replicate 2 7 ∷ []
+unfolding left k3
+sheets = refl
+
+-- two covers, an index above 255 among them
+two-covers : written (accepted (bounding_parameter 3 ∷ reserve 258 ∷ [])) (replicate 8 7) ≡ 4 ∷ 0 ∷ 3 ∷ 5 ∷ 1 ∷ 2 ∷ 7 ∷ 7 ∷ []
+unfolding written sheet kind index
+two-covers = refl
+
+-- K11 and its payout again, inside Checked, with a state field before r
+abbrev again : List ℕ
+again = state "q" [] ++ k11 ++ entry (asset "b" ++ drawing ++ send (write Checked double))
+
+-- as K11, with b.amount itself: the parameter backs the payout, and r covers it all the same
+abbrev backed : List ℕ
+backed =
+    state "r" (integer "0") ++ raising (guard (holds "T"))
+    ++ entry (asset "b" ++ guard (write Ge (identifier "r" ++ amount "b")) ++ write SubtractFrom (identifier "r" ++ amount "b") ++ send (amount "b"))
+
+-- the reserves by themselves: of K11, of K12, of two payouts of one amount, of which neither uses it up, and of one that is
+-- backed; none of a payout or an entry that is not there
+alone : reserve_in k11 1 0 ∷ reserve_in k12 1 0 ∷ reserve_in again 2 0 ∷ reserve_in again 2 1 ∷ reserve_in backed 1 0 ∷ []
+    ≡ Covers 0 ∷ Nothing ∷ Covers 1 ∷ Covers 1 ∷ Covers 0 ∷ []
+unfolding reserve_in
+alone = refl
+
+absent : reserve_in k11 1 1 ∷ reserve_in k11 0 0 ∷ reserve_in k11 2 0 ∷ reserve_in [] 0 0 ∷ [] ≡ replicate 4 Nothing
+unfolding reserve_in
+absent = refl

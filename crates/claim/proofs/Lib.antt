@@ -7,6 +7,6 @@ pub mod Exact
 pub mod Fitting
 pub mod Claim
 pub mod Samples
-pub mod Worked
+pub mod Refusals
 pub mod Examples
 pub mod Words

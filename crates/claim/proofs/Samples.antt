@@ -1,5 +1,5 @@
 -- Entries written by hand, and what the definitions say of them.
-use Rattle.std.proofs.Common.{ℕ, List, [], ◌++◌, map, length}
+use Rattle.std.proofs.Common.{ℕ, ◌≡◌, refl, List, [], ◌∷◌, ◌++◌, map, length}
 use mathlib.Core.List.{flat_map}
 use Prim.Native.String.{String}
 use Rattle.laws.specs.Lists.{any, all, filter, find, remove_first, position, numbered}
@@ -27,7 +27,7 @@ use Rattle.matching.specs.Matching.{debit_backings, parameter_backings, backings
 use Rattle.reserves.specs.Candidates.{state_index}
 use Rattle.reserves.specs.Covers.{reserve_of}
 use Rattle.reserves.specs.declared.covering.Reserve.{Reserve}
-use Rattle.claim.specs.Verdict.{Verdict, match_from, matching, backing_count, entry_at, ask_entry, entry_verdict, verdict, kind, index, sheet, written, spare}
+use Rattle.claim.specs.Verdict.{Verdict, match_from, matching, backing_count, entry_at, ask_entry, entry_verdict, verdict, kind, index, sheet, written}
 use Rattle.claim.specs.Reserve.{payout_reserve}
 
 -- Rows
@@ -67,11 +67,6 @@ stated rs = map (λ r. r.expected) rs
 unfoldable pub left : List ℕ → ℕ → List ℕ → List ℕ
 unfolding found written sheet kind index
 left file n lent = written (verdict file n (length lent)) lent
-
--- backings minus payouts
-unfoldable pub spare_of : List ℕ → ℕ → ℕ
-unfolding found spare
-spare_of file n = spare (entry_at (fields file) n).this
 
 -- the state field that covers a payout by itself
 unfoldable pub reserve_in : List ℕ → ℕ → ℕ → Reserve
@@ -157,3 +152,27 @@ raising guards = entry (asset "a" ++ guards ++ write AddTo (identifier "r" ++ am
 -- guard r >= b.amount * 2, r -= b.amount * 2, send b.amount * 2
 abbrev pub drawing : List ℕ
 drawing = guard (write Ge (identifier "r" ++ double)) ++ write SubtractFrom (identifier "r" ++ double) ++ send double
+
+-- Files of entries that the rules work by hand, those that more than one list asks about
+
+-- K3: the 66 bytes as the rules print them
+unfoldable pub k3 : List ℕ
+k3 =
+    0x03 ∷ 0x00 ∷ 0x3F ∷ 0x20 ∷ 0x00 ∷ 0x01 ∷ 0x66 ∷ 0x04 ∷ 0x00 ∷ 0x0E ∷ 0x20 ∷ 0x00 ∷ 0x01 ∷ 0x61 ∷ 0x21 ∷ 0x00 ∷
+    0x07 ∷ 0x51 ∷ 0x5F ∷ 0x41 ∷ 0x73 ∷ 0x73 ∷ 0x65 ∷ 0x74 ∷ 0x16 ∷ 0x00 ∷ 0x27 ∷ 0x3B ∷ 0x00 ∷ 0x24 ∷ 0x33 ∷ 0x00 ∷
+    0x0A ∷ 0x73 ∷ 0x65 ∷ 0x6E ∷ 0x64 ∷ 0x5F ∷ 0x61 ∷ 0x73 ∷ 0x73 ∷ 0x65 ∷ 0x74 ∷ 0x33 ∷ 0x00 ∷ 0x01 ∷ 0x54 ∷ 0x34 ∷
+    0x00 ∷ 0x00 ∷ 0x3A ∷ 0x00 ∷ 0x0D ∷ 0x33 ∷ 0x00 ∷ 0x01 ∷ 0x61 ∷ 0x20 ∷ 0x00 ∷ 0x06 ∷ 0x61 ∷ 0x6D ∷ 0x6F ∷ 0x75 ∷
+    0x6E ∷ 0x74 ∷ []
+
+-- the encoder writes the same bytes
+k3-written : k3 ≡ entry (asset "a" ++ send (amount "a"))
+unfolding k3
+k3-written = refl
+
+-- K11: entry 0, with a, guards in-asset == T and raises the state field r; entry 1, with b, draws on it
+abbrev pub k11 : List ℕ
+k11 = state "r" (integer "0") ++ raising (guard (holds "T")) ++ entry (asset "b" ++ drawing)
+
+-- K12: the same with that guard written twice
+abbrev pub k12 : List ℕ
+k12 = state "r" (integer "0") ++ raising (guard (holds "T") ++ guard (holds "T")) ++ entry (asset "b" ++ drawing)

@@ -4,4 +4,5 @@ pub mod Covers
 pub mod Reading
 pub mod Back
 pub mod Enough
+pub mod Worked
 pub mod Examples
