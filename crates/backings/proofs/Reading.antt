@@ -1,17 +1,19 @@
 -- The backings by number, as the code reads them.
-use Rattle.std.proofs.Common.{ℕ, ◌≤◌, ◌<◌, ◌≡◌, refl, Bool, true, false, not, List, arith, lt-ltb, le-ltb, length, get_or, drop, length-drop}
+use Rattle.std.proofs.Common.{ℕ, ◌≤◌, ◌<◌, ◌≡◌, refl, Bool, true, false, not, List, lt-ltb, le-ltb, get_or, drop}
 use Rattle.fields.specs.Field.{fields, front, part}
 use Rattle.model.specs.Model.{name_of}
 use Rattle.walking.specs.Walking.{peel, receiver}
 use Rattle.bounds.specs.Backing.{backing_field}
 use Rattle.walking.specs.Table.{placed_at}
 use Rattle.tokens.specs.Tokens.{differ, admitted_inflow_token}
-use Rattle.tokens.specs.Numbers.{not_yet, token_of, tokens_number}
-use Rattle.tokens.proofs.Numbers.{number-token}
+use Rattle.tokens.specs.Numbers.{not_yet, tokens_number}
+use Rattle.tokens.specs.Place.{token_place}
+use Rattle.tokens.proofs.Shown.{Shows}
 use Rattle.fundings.specs.FundingTokens.{funding_token}
+use Rattle.fundings.specs.Fundings.{funding_number}
 use Rattle.entries.specs.declared.entry.Entry.{Entry}
 use Rattle.backings.specs.declared.backing.Backing.{Backing}
-use Rattle.backings.specs.Tables.{Admitted, amount_in, token_at}
+use Rattle.backings.specs.Tables.{Admitted, debit_at, amount_in, token_at}
 
 -- a backing: a debit or a parameter
 module _ (file : List ℕ) (b : Backing) (d : List ℕ) (f : d ≡ drop b.at file) (r : List ℕ) where
@@ -24,36 +26,30 @@ module _ (file : List ℕ) (b : Backing) (d : List ℕ) (f : d ≡ drop b.at fil
   parameter-part h g = rw (h, ← f, g)
 
 -- the token of one by number, beside that of the payout
-module _ (file : List ℕ) (e : Entry) (i : ℕ) (d t u v : List ℕ) (r : Bool) (q : u ≡ v) (k : r ≡ differ t u) where
-  pub debit-conflict : i < e.debits → (n : ℕ) → n ≡ get_or e.backed i 0 → d ≡ drop n file → (m : List ℕ) → m ≡ receiver (front d) →
-      t ≡ funding_token (fields file) m → r ≡ differ (token_at file e i) v
+module _ (file : List ℕ) (e : Entry) (i : ℕ) (t u v : List ℕ) (r : Bool) (q : u ≡ v) (k : r ≡ differ t u) where
+  pub debit-conflict : i < e.debits → t ≡ funding_token (fields file) (receiver (debit_at file e.backed i)) → r ≡ differ (token_at file e i) v
   unfolding token_at
-  debit-conflict h n f g m j l = rw (lt-ltb i e.debits h, ← f, ← g, ← j, ← l, ← q) k
+  debit-conflict h l = rw (lt-ltb i e.debits h, ← l, ← q) k
 
-  pub parameter-conflict : e.debits ≤ i → d ≡ drop e.place file → (n : ℕ) → token_of d n ≡ admitted_inflow_token (front d) → t ≡ token_of d n →
-      r ≡ differ (token_at file e i) v
+  pub parameter-conflict : e.debits ≤ i → t ≡ admitted_inflow_token (front (drop e.place file)) → r ≡ differ (token_at file e i) v
   unfolding token_at
-  parameter-conflict h g n j l = rw (le-ltb i e.debits h, ← g, ← j, ← l, ← q) k
+  parameter-conflict h l = rw (le-ltb i e.debits h, ← l, ← q) k
 
--- what is left of a small file is small
-pub small-rest : (file : List ℕ) (n : ℕ) (x : List ℕ) → x ≡ drop n file → length file ≤ 32768 → length x ≤ 32768
-small-rest file n x e h = rw (e, length-drop) (omega arith)
+-- what is read of a debit at its place in the table is read of it in the file
+module _ (file : List ℕ) (e : Entry) (i n : ℕ) (f : n ≡ get_or e.backed i 0) (d : List ℕ) (g : d ≡ drop n file) (m : List ℕ) (j : m ≡ receiver (front d)) (t : List ℕ) where
+  pub debit-read : t ≡ funding_token (fields file) m → t ≡ funding_token (fields file) (receiver (debit_at file e.backed i))
+  debit-read l = rw (← f, ← g, ← j) l
 
--- The token that an entry admits, by its number
-module _ (entry : List ℕ) (number : ℕ) where
-  pub remembered-token : Admitted entry number → (number ≡ not_yet → ⊥) → token_of entry number ≡ admitted_inflow_token (front entry)
-  remembered-token v some = v.told some
-
-  pub worked-out-token : number ≡ tokens_number entry (placed_at entry 0) → token_of entry number ≡ admitted_inflow_token (front entry)
-  worked-out-token k = number-token entry number k (token_of entry number) refl
+  pub debit-there : Shows file (token_place file (funding_number file m)) t → Shows file (token_place file (funding_number file (receiver (debit_at file e.backed i)))) t
+  debit-there l = rw (← f, ← g, ← j) l
 
 -- nothing is remembered at first
-pub admits-nothing : (entry : List ℕ) → Admitted entry not_yet
-admits-nothing entry = record { told = λ some. absurd (some refl) }
+pub admits-nothing : (file : List ℕ) (place : ℕ) → Admitted file place not_yet
+admits-nothing file place = record { told = λ some. absurd (some refl) }
 
--- the part of the file that starts with the entry is the one of which something is remembered
-pub entry-admits : (file : List ℕ) (n number : ℕ) (x : List ℕ) → x ≡ drop n file → Admitted (drop n file) number → Admitted x number
-entry-admits file n number x e v = rw e v
+-- and then the number, once it is worked out
+pub admits-number : (file : List ℕ) (place number : ℕ) → number ≡ tokens_number file (placed_at file place) → Admitted file place number
+admits-number file place number e = record { told = λ some. e }
 
-pub file-admits : (file : List ℕ) (n number : ℕ) (x : List ℕ) → x ≡ drop n file → token_of x number ≡ admitted_inflow_token (front x) → Admitted (drop n file) number
-file-admits file n number x e v = record { told = λ some. rw e at v }
+pub remembered_number : (file : List ℕ) (place number : ℕ) → Admitted file place number → (number ≡ not_yet → ⊥) → number ≡ tokens_number file (placed_at file place)
+remembered_number file place number v some = v.told some

@@ -4,11 +4,12 @@ use Rattle.laws.specs.Numbers.{first_from}
 use Rattle.fields.specs.Field.{Field, fields, front, part}
 use Rattle.model.specs.Model.{name_of}
 use Rattle.walking.specs.Walking.{peel, receiver}
+use Rattle.walking.specs.Table.{placed_at}
 use Rattle.equality.specs.Equality.{expr_eq}
 use Rattle.equality.specs.Amount.{amount_of}
 use Rattle.bounds.specs.Bounds.{bounded_by_backing}
 use Rattle.tokens.specs.Tokens.{admitted_inflow_token}
-use Rattle.tokens.specs.Numbers.{not_yet, token_of}
+use Rattle.tokens.specs.Numbers.{not_yet, tokens_number}
 use Rattle.fundings.specs.FundingTokens.{funding_token}
 use Rattle.backings.specs.Marked.{mark_at}
 use Rattle.entries.specs.Entered.{entry_of}
@@ -16,10 +17,9 @@ use Rattle.entries.specs.declared.entry.Entry.{Entry}
 use Rattle.backings.specs.declared.backing.Backing.{Backing}
 use Rattle.backings.specs.declared.marks.Marks.{Marks as Coded}
 
--- what is remembered of the token that an entry admits, with which this part of the file starts: nothing yet, or the token's
--- number
-pub record Admitted (entry : List ℕ) (number : ℕ) : Type 0 where
-  pub told : (number ≡ not_yet → ⊥) → token_of entry number ≡ admitted_inflow_token (front entry)
+-- what is remembered of the token that the entry at a place admits: nothing yet, or the token's number
+pub record Admitted (file : List ℕ) (place number : ℕ) : Type 0 where
+  pub told : (number ≡ not_yet → ⊥) → number ≡ tokens_number file (placed_at file place)
 
 -- the call of debit number i
 abbrev pub debit_at : (file table : List ℕ) → ℕ → Field

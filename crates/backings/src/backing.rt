@@ -1,17 +1,22 @@
 // SPDX-License-Identifier: Apache-2.0 OR MIT
 // The backings of an entry by number: backing i is debit i, and behind the debits an asset parameter. It stands in the file at
 // the i-th place of a table, the call of a debit and the parameter itself.
-ghost use Rattle.std.specs.Prelude.{◌≡◌, not, false, ◌≤◌, length, drop};
-ghost use Rattle.fields.specs.Field.{front, part};
-ghost use Rattle.walking.specs.Walking.{peel};
+ghost use Rattle.std.specs.Prelude.{◌≡◌, not, false, ◌*◌, ◌≤◌, length, take, drop};
+ghost use Rattle.fields.specs.Field.{fields, front, part};
+ghost use Rattle.walking.specs.Walking.{peel, receiver};
+ghost use Rattle.walking.specs.Table.{placed_at};
 ghost use Rattle.equality.specs.Equality.{expr_eq};
 ghost use Rattle.bounds.specs.Bounds.{bounded_by_backing};
 ghost use Rattle.bounds.specs.Backing.{backing_field};
 ghost use Rattle.tokens.specs.Tokens.{differ, admitted_inflow_token};
-ghost use Rattle.tokens.specs.Numbers.{token_of};
+ghost use Rattle.tokens.specs.Numbers.{tokens_number, Standing};
+ghost use Rattle.tokens.specs.Place.{token_place};
+ghost use Rattle.fundings.specs.FundingTokens.{funding_token};
+ghost use Rattle.fundings.specs.Fundings.{funding_number};
 ghost use Rattle.fundings.specs.Funded.{Funded};
+ghost use Rattle.entries.specs.Entered.{entry_of};
 ghost use Rattle.guards.specs.Payouts.{payout_token};
-ghost use Rattle.backings.specs.Tables.{Admitted, backing_in, amount_in, token_at};
+ghost use Rattle.backings.specs.Tables.{Admitted, debit_at, backing_in, amount_in, token_at};
 
 use bounds::{backing_eq, bounded_by};
 use entries::entry::Entry;
@@ -74,17 +79,37 @@ pub fn backing_bounds(file: &[u8], backing: Backing, s: &[u8]) -> bool
     bounded_by(s, backing_part(file, backing), !backing.debit, false)
 }
 
-// The number of the token that the entry at the front of a part of the file admits. It is worked out where a match first asks
-// for it, and then remembered.
-fn admitted_number(entry: &[u8], admitted: usize) -> usize
-    requires small { length entry.now ≤ 32768 }
-    requires admits { Admitted entry.now admitted }
-    ensures { token_of entry.now result ≡ admitted_inflow_token (front entry.now) }
+// The number of the token that the entry at a place admits. It is worked out where a match first asks for it, and then remembered.
+fn admitted_number(file: &[u8], place: usize, admitted: usize, scratch: &mut [u16]) -> usize
+    requires standing { Standing file.now place 0 }
+    requires room { length file.now ≤ 3 * length scratch.old }
+    requires admits { Admitted file.now place admitted }
+    ensures { result ≡ tokens_number file.now (placed_at file.now place) }
 {
     if admitted != NOT_YET {
         return admitted;
     }
-    tokens_number(entry, 0)
+    tokens_number(file, place, scratch)
+}
+
+// The token of a debit: the one that funds the map of debit number i.
+fn debit_token<'a>(file: &'a [u8], entry: Entry, i: usize, facts: &[u16]) -> &'a [u8]
+    requires small { length file.now ≤ 32768 }
+    requires funded { Funded file.now facts.now }
+    ensures reads { result.now ≡ funding_token (fields file.now) (receiver (debit_at file.now entry.backed i)) }
+    ensures shows { result.now ≡ take (length result.now) (drop (token_place file.now (funding_number file.now (receiver (debit_at file.now entry.backed i)))) file.now) }
+{
+    let debit = skip(file, number_at(&entry.backed, i));
+    funded_token(file, receiver(debit), facts)
+}
+
+// The token of an asset parameter: the one that the entry at a place admits, whose number is known.
+fn parameter_token(file: &[u8], place: usize, number: usize) -> &[u8]
+    requires { number ≡ tokens_number file.now (placed_at file.now place) }
+    ensures reads { result.now ≡ admitted_inflow_token (entry_of file.now place) }
+    ensures shows { result.now ≡ take (length result.now) (drop (token_place file.now (tokens_number file.now (placed_at file.now place))) file.now) }
+{
+    token_of(file, number)
 }
 
 // Whether two tokens are both known and differ, and what is remembered of the token that the entry admits.
@@ -103,25 +128,26 @@ pub fn tokens_conflict(
     s: &[u8],
     facts: &[u16],
     admitted: usize,
+    scratch: &mut [u16],
 ) -> Compared
-    requires small { length file.now ≤ 32768 }
+    requires standing { Standing file.now entry.place 0 }
     requires funded { Funded file.now facts.now }
-    requires admits { Admitted (drop entry.place file.now) admitted }
+    requires admits { Admitted file.now entry.place admitted }
+    requires room { length file.now ≤ 3 * length scratch.old }
     ensures answer { result.conflict ≡ differ (token_at file.now entry i) (payout_token (front s.now)) }
-    ensures admits { Admitted (drop entry.place file.now) result.admitted }
+    ensures admits { Admitted file.now entry.place result.admitted }
 {
     if i < entry.debits {
-        let debit = skip(file, number_at(&entry.backed, i));
-        let token = funded_token(file, receiver(debit), facts);
+        let token = debit_token(file, entry, i, facts);
         return Compared {
             conflict: tokens_differ(token, payout_token(s)),
             admitted: admitted,
         };
     }
-    let here = skip(file, entry.place);
-    let number = admitted_number(here, admitted);
+    let number = admitted_number(file, entry.place, admitted, scratch);
+    let token = parameter_token(file, entry.place, number);
     Compared {
-        conflict: tokens_differ(token_of(here, number), payout_token(s)),
+        conflict: tokens_differ(token, payout_token(s)),
         admitted: number,
     }
 }

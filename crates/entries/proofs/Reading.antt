@@ -131,6 +131,7 @@ pub entered : (file : List ℕ) (e : Entry) → Read file e → e.payouts ≤ 64
 entered file e r h g =
     record {
       small = r.small;
+      inside = r.inside;
       many = r.many;
       limit = h;
       paid = r.paid h;

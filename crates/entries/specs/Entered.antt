@@ -50,6 +50,7 @@ pub record BackedOf (file : List ℕ) (place : ℕ) (b : Backed) : Type 0 where
 -- an entry as it is read
 pub record Read (file : List ℕ) (e : Entry) : Type 0 where
   pub small : length file ≤ 32768
+  pub inside : e.place ≤ length file
   pub many : e.payouts ≡ length (payouts (entry_of file e.place))
   pub last : 64 < e.payouts → get_or e.paid 64 0 ≡ (get_or (body_where is_payout (placed_at file e.place)) 64 nowhere).place
   pub paid : e.payouts ≤ 64 → fields_at file (take e.payouts e.paid) ≡ payouts (entry_of file e.place)
@@ -62,6 +63,7 @@ pub record Read (file : List ℕ) (e : Entry) : Type 0 where
 -- an entry past questions 10 and 11: all its payouts and backings found room
 pub record Entered (file : List ℕ) (e : Entry) : Type 0 where
   pub small : length file ≤ 32768
+  pub inside : e.place ≤ length file
   pub many : e.payouts ≡ length (payouts (entry_of file e.place))
   pub limit : e.payouts ≤ 64
   pub paid : fields_at file (take e.payouts e.paid) ≡ payouts (entry_of file e.place)

@@ -16,7 +16,7 @@ use Rattle.entries.specs.Entered.{entry_of}
 use Rattle.entries.specs.declared.entry.Entry.{Entry}
 use Rattle.reserves.specs.Reserves.{reserve_bounding_payout}
 use Rattle.reserves.specs.Candidates.{state_index}
-use Rattle.reserves.specs.Covers.{reserve_of}
+use Rattle.reserves.specs.Covers.{index_of, index_in}
 use Rattle.reserves.specs.declared.covering.Reserve.{Reserve as Reserved}
 use Rattle.reserves.specs.declared.covering.Reserve.TheVariants.{Covers, Nothing}
 use Rattle.backings.specs.Marked.{used_at}
@@ -208,9 +208,9 @@ module _ (file : List ℕ) (en : Entry) (candidates facts : List ℕ) (pass : Pa
   unfolding asked_amount paid_at asked_token
   asked-for = refl
 
-  module _ (r : Reserved) (g : r ≡ reserve_of model covering) where
+  module _ (r : Reserved) (g : index_of r ≡ index_in model covering) where
     pub reserve-none : r ≡ Nothing → Rejected NoReserve ≡ coded (at_payout by_reserve file en pass.marks k)
-    unfolding coded reserve_of
+    unfolding coded index_in
     reserve-none h = go covering refl
       where
         go : (o : Option (List ℕ)) → covering ≡ o → Rejected NoReserve ≡ coded (at_payout by_reserve file en pass.marks k)
@@ -218,7 +218,7 @@ module _ (file : List ℕ) (en : Entry) (candidates facts : List ℕ) (pass : Pa
         go (some n) o = cc
 
     pub reserve-covers : (i : ℕ) → r ≡ Covers i → (a : Answer) → a ≡ reserve_at pass.marks i → a ≡ coded (at_payout by_reserve file en pass.marks k)
-    unfolding reserve_of state_index
+    unfolding index_in state_index
     reserve-covers i h a j = go covering refl
       where
         go : (o : Option (List ℕ)) → covering ≡ o → a ≡ coded (at_payout by_reserve file en pass.marks k)

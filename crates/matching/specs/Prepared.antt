@@ -21,6 +21,6 @@ pub record Prepared (file : List ℕ) (e : Entry) (candidates facts : List ℕ) 
 -- there is a k-th payout, what is remembered of the token that the entry admits is right, and one more reserve finds room
 pub record Ready (file : List ℕ) (e : Entry) (candidates facts : List ℕ) (pass : Pass) (k : ℕ) : Type 0 where
   pub prepared : Prepared file e candidates facts
-  pub admits : Admitted (drop e.place file) pass.admitted
+  pub admits : Admitted file e.place pass.admitted
   pub among : k < e.payouts
   pub room : pass.marks.uses < 64

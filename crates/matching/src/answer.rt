@@ -161,7 +161,7 @@ fn by_bounding(
     requires scratch { length file.now ≤ 3 * length scratch.old }
     ensures answers { result.answer ≡ coded (at_payout by_bounding file.now entry pass.marks k) }
     ensures facts { Facts file.now facts.new }
-    ensures admits { Admitted (drop entry.place file.now) result.admitted }
+    ensures admits { Admitted file.now entry.place result.admitted }
 {
     let payout = nth_payout(file, &entry.paid, k);
     let i = first_bounding(file, entry, pass.marks, payout);
@@ -171,7 +171,7 @@ fn by_bounding(
             admitted: pass.admitted,
         };
     }
-    let compared = tokens_conflict(file, entry, i, payout, facts, pass.admitted);
+    let compared = tokens_conflict(file, entry, i, payout, facts, pass.admitted, scratch);
     if compared.conflict {
         return Found {
             answer: Answer::Rejected {
@@ -202,7 +202,7 @@ fn not_taken(
     requires scratch { length file.now ≤ 3 * length scratch.old }
     ensures answers { result.answer ≡ coded (at_payout not_taken file.now entry pass.marks k) }
     ensures facts { Facts file.now facts.new }
-    ensures admits { Admitted (drop entry.place file.now) result.admitted }
+    ensures admits { Admitted file.now entry.place result.admitted }
 {
     if is_taken(file, entry, pass.marks, nth_payout(file, &entry.paid, k)) {
         return Found {
@@ -229,14 +229,14 @@ fn by_equal(
     requires scratch { length file.now ≤ 3 * length scratch.old }
     ensures answers { result.answer ≡ coded (at_payout by_equal file.now entry pass.marks k) }
     ensures facts { Facts file.now facts.new }
-    ensures admits { Admitted (drop entry.place file.now) result.admitted }
+    ensures admits { Admitted file.now entry.place result.admitted }
 {
     let payout = nth_payout(file, &entry.paid, k);
     let i = first_equal(file, entry, pass.marks, payout);
     if entry.total <= i {
         return not_taken(file, entry, pass, k, candidates, facts, scratch);
     }
-    let compared = tokens_conflict(file, entry, i, payout, facts, pass.admitted);
+    let compared = tokens_conflict(file, entry, i, payout, facts, pass.admitted, scratch);
     if compared.conflict {
         return Found {
             answer: Answer::Rejected {
@@ -267,7 +267,7 @@ fn cover_payout(
     requires scratch { length file.now ≤ 3 * length scratch.old }
     ensures answers { result.answer ≡ coded (at_payout answer file.now entry pass.marks k) }
     ensures facts { Facts file.now facts.new }
-    ensures admits { Admitted (drop entry.place file.now) result.admitted }
+    ensures admits { Admitted file.now entry.place result.admitted }
 {
     if !is_present(payout_amount(nth_payout(file, &entry.paid, k))) {
         return Found {
@@ -305,7 +305,7 @@ pub fn answer_payout(
     ensures answers { AnswersFor file.now entry pass.marks k result }
     ensures uses { result.pass.marks.uses ≤ pass.marks.uses + 1 }
     ensures facts { Facts file.now facts.new }
-    ensures admits { Admitted (drop entry.place file.now) result.pass.admitted }
+    ensures admits { Admitted file.now entry.place result.pass.admitted }
 {
     let found = cover_payout(file, entry, pass, k, candidates, facts, scratch);
     let answer = found.answer;

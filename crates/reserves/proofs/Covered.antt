@@ -4,7 +4,7 @@
 use Rattle.std.proofs.Common.{ℕ, zero, suc, ◌+◌, ◌≤◌, ◌<◌, ◌≡◌, refl, sym, ap, ◌∙◌, Bool, true, false, cond, ◌&&◌, ◌||◌, List, [], ◌∷◌, ◌++◌, map, eqb, length, get_or, take, drop}
 use mathlib.Core.Bool.{and-false}
 use mathlib.Core.List.{flat_map}
-use mathlib.Core.Option.{some}
+use mathlib.Core.Option.{Option, none, some}
 use Rattle.laws.proofs.Texts.{bytes-equal, bytes_same}
 use Rattle.laws.specs.Texts.{same_bytes, known}
 use Rattle.laws.specs.Lists.{any, filter, find, position}
@@ -26,12 +26,10 @@ use Rattle.reserves.specs.Reserves.{reserve_covers, reserve_bounding_payout}
 use Rattle.reserves.specs.Candidates.{counts, state_index, candidate_numbers}
 use Rattle.guards.specs.Asked.{asked_token, asked_amount, asked_amounts, inflow_amounts}
 use Rattle.reserves.specs.Holding.{state_name, is_token, holds_token}
-use Rattle.reserves.specs.Covers.{reserve_of, amount_at, equal_from, first_covering}
+use Rattle.reserves.specs.Covers.{index_in, amount_at, equal_from, first_covering}
 use Rattle.guards.proofs.Paid.{asked-among}
 use Rattle.guards.proofs.Lowerings.{lowers-same}
 use Rattle.reserves.proofs.Counting.{exact_at, candidates-read}
-use Rattle.reserves.specs.declared.covering.Reserve.{Reserve}
-use Rattle.reserves.specs.declared.covering.Reserve.TheVariants.{Covers, Nothing}
 
 -- A state field by its number
 
@@ -88,27 +86,27 @@ module _ (file asked : List ℕ) (k : ℕ) (e amount : Field) (amounts : List Fi
   bounds g = expr_eq (guarded_amount g) amount
 
   -- what some guards give
-  abbrev answer : List Field → Reserve
-  answer gs = reserve_of (fields file) (find covers (map guarded_field (filter bounds (map (part 0) gs))))
+  abbrev answer : List Field → Option ℕ
+  answer gs = index_in (fields file) (find covers (map guarded_field (filter bounds (map (part 0) gs))))
 
   answer-step : (b : Bool) (f : Field) (gs : List Field) → answer (cond b (f ∷ gs) gs)
-      ≡ cond (b && (bounds (part 0 f) && covers (guarded_field (part 0 f)))) (Covers (state_index (fields file) (guarded_field (part 0 f)))) (answer gs)
-  unfolding filter find reserve_of
+      ≡ cond (b && (bounds (part 0 f) && covers (guarded_field (part 0 f)))) (some (state_index (fields file) (guarded_field (part 0 f)))) (answer gs)
+  unfolding filter find index_in
   answer-step false f gs = refl
   answer-step true f gs = go (bounds (part 0 f))
     where
-      go : (q : Bool) → reserve_of (fields file) (find covers (map guarded_field (cond q (part 0 f ∷ filter bounds (map (part 0) gs)) (filter bounds (map (part 0) gs)))))
-          ≡ cond (q && covers (guarded_field (part 0 f))) (Covers (state_index (fields file) (guarded_field (part 0 f)))) (answer gs)
+      go : (q : Bool) → index_in (fields file) (find covers (map guarded_field (cond q (part 0 f ∷ filter bounds (map (part 0) gs)) (filter bounds (map (part 0) gs)))))
+          ≡ cond (q && covers (guarded_field (part 0 f))) (some (state_index (fields file) (guarded_field (part 0 f)))) (answer gs)
       go false = refl
       go true = last (covers (guarded_field (part 0 f)))
         where
-          last : (c : Bool) → reserve_of (fields file) (cond c (some (guarded_field (part 0 f))) (find covers (map guarded_field (filter bounds (map (part 0) gs)))))
-              ≡ cond c (Covers (state_index (fields file) (guarded_field (part 0 f)))) (answer gs)
+          last : (c : Bool) → index_in (fields file) (cond c (some (guarded_field (part 0 f))) (find covers (map guarded_field (filter bounds (map (part 0) gs)))))
+              ≡ cond c (some (state_index (fields file) (guarded_field (part 0 f)))) (answer gs)
           last true = refl
           last false = refl
 
   numbers-step : (b : Bool) (a i : ℕ) (l : List ℕ) → first_covering file amount holds (cond b (a ∷ i ∷ []) [] ++ l)
-      ≡ cond (b && (expr_eq (amount_at file a) amount && holds i)) (Covers i) (first_covering file amount holds l)
+      ≡ cond (b && (expr_eq (amount_at file a) amount && holds i)) (some i) (first_covering file amount holds l)
   unfolding first_covering
   numbers-step true a i l = refl
   numbers-step false a i l = refl
@@ -138,7 +136,7 @@ module _ (file asked : List ℕ) (k : ℕ) (e amount : Field) (amounts : List Fi
         by_name
 
     one-part : (l : List ℕ) → first_covering file amount holds (exact_at (fields file) amounts e (record { place = n; this = f }) ++ l)
-        ≡ cond (eqb (tag f) Guard && (bounds (part 0 f) && covers r)) (Covers (state_index (fields file) r)) (first_covering file amount holds l)
+        ≡ cond (eqb (tag f) Guard && (bounds (part 0 f) && covers r)) (some (state_index (fields file) r)) (first_covering file amount holds l)
     unfolding exact_at
     one-part l =
         numbers-step (eqb (tag f) Guard && counts (fields file) amounts e (part 0 f)) n (state_index (fields file) r) l
@@ -147,7 +145,7 @@ module _ (file asked : List ℕ) (k : ℕ) (e amount : Field) (amounts : List Fi
   -- all parts
   searched : (n : ℕ) (fs : Fields) → Every (Stands file) (placed n fs) →
       first_covering file amount holds (flat_map (exact_at (fields file) amounts e) (placed n fs)) ≡ answer (fields_from Guard Guard fs)
-  unfolding first_covering flat_map placed fields_from filter row find reserve_of
+  unfolding first_covering flat_map placed fields_from filter row find index_in
   searched n (end r) s = refl
   searched n (next f fs) s =
       one-part n f s.0 (flat_map (exact_at (fields file) amounts e) (placed (n + size f) fs))
@@ -185,11 +183,11 @@ module _ (file : List ℕ) (place : ℕ) (asked : List ℕ) (k : ℕ) where
   covering r = reserve_covers (fields file) entry amount (asked_token file asked k) r
 
   -- what is asked
-  abbrev pub bounding : Reserve
-  bounding = reserve_of (fields file) (reserve_bounding_payout (fields file) entry amount (asked_token file asked k))
+  abbrev pub bounding : Option ℕ
+  bounding = index_in (fields file) (reserve_bounding_payout (fields file) entry amount (asked_token file asked k))
 
-  pub none-contained : contains_inflow entry amount ≡ false → Nothing ≡ bounding
-  unfolding reserve_bounding_payout reserve_covers reserve_of
+  pub none-contained : contains_inflow entry amount ≡ false → none ≡ bounding
+  unfolding reserve_bounding_payout reserve_covers index_in
   none-contained i = rw (find_none covering (λ r. rw i) named)
 
   module _ (count : ℕ) (among : k < count) (room : count ≤ length asked) (inflow : contains_inflow entry amount ≡ true) where
@@ -205,7 +203,7 @@ module _ (file : List ℕ) (place : ℕ) (asked : List ℕ) (k : ℕ) where
     abbrev test : List ℕ → Bool
     test = covers file asked k entry amount amounts own
 
-    abbrev first : Reserve
+    abbrev first : Option ℕ
     first = first_covering file amount (holds_token file (asked_token file asked k)) (candidate_numbers (fields file) amounts (placed_at file place))
 
     entry-searched : length file ≤ 32768 → first ≡ answer file asked k entry amount amounts own (fields_from Guard Guard (parts entry))
@@ -217,7 +215,7 @@ module _ (file : List ℕ) (place : ℕ) (asked : List ℕ) (k : ℕ) where
     unfolding reserve_bounding_payout reserve_covers guarded_by guards is_token
     all-contained small =
         entry-searched small
-        ∙ ap (reserve_of (fields file))
+        ∙ ap (index_in (fields file))
         (find-same test covering named
         (every-weaker (λ r. any (same_bytes r) named ≡ true) (λ r. test r ≡ covering r)
         (λ r a. rw (inflow, a) (regrouped (any (same_bytes r) (state_names (fields file))) (any (lowers amount r) (body entry))

@@ -1,11 +1,11 @@
 -- A table gone through two numbers at a time: those that were passed do not count, so those that are left decide.
 use Rattle.std.proofs.Common.{ℕ, ◌+◌, ◌-◌, ◌≤◌, ◌<◌, ◌≡◌, refl, sym, ◌∙◌, Bool, true, false, cond, ◌&&◌, List, [], ◌∷◌, arith, length, get_or, drop, length-drop, drop_of_length-le}
+use mathlib.Core.Option.{none, some}
 use Rattle.laws.proofs.Slices.{drop-step}
 use Rattle.fields.specs.Field.{Field, front}
 use Rattle.equality.specs.Equality.{expr_eq}
 use Rattle.reserves.specs.Holding.{holds_token, Known}
 use Rattle.reserves.specs.Covers.{amount_at, equal_from, first_covering}
-use Rattle.reserves.specs.declared.covering.Reserve.TheVariants.{Covers, Nothing}
 
 -- the next two
 next-two : (l : List ℕ) (i : ℕ) → 1 < length l - i → drop i l ≡ get_or l i 0 ∷ get_or l (i + 1) 0 ∷ drop (i + 2) l
@@ -49,7 +49,7 @@ module _ (file : List ℕ) (amount : Field) (l : List ℕ) (i : ℕ) (v : Skippi
 -- The first that covers
 
 module _ (file : List ℕ) (amount : Field) (holds : ℕ → Bool) where
-  none_left : (l : List ℕ) → length l ≤ 1 → Nothing ≡ first_covering file amount holds l
+  none_left : (l : List ℕ) → length l ≤ 1 → none ≡ first_covering file amount holds l
   unfolding first_covering
   none_left [] h = refl
   none_left (n ∷ []) h = refl
@@ -66,15 +66,15 @@ pub covering-all : (file : List ℕ) (amount : Field) (token l facts lent : List
 covering-all file amount token l facts lent v = record { within = omega arith; known = v; wide = refl; same = refl; left = refl }
 
 module _ (file : List ℕ) (amount : Field) (token l before facts lent scratch : List ℕ) (i : ℕ) (v : Covering file amount token l before facts lent scratch i) where
-  pub covering-none : length l - i ≤ 1 → Nothing ≡ first_covering file amount (holds_token file token) l
+  pub covering-none : length l - i ≤ 1 → none ≡ first_covering file amount (holds_token file token) l
   covering-none h = none_left file amount (holds_token file token) (drop i l) (omega (arith, length-drop i l)) ∙ v.left
 
   module _ (h : 1 < length l - i) (b : Bool) (g : b ≡ expr_eq (amount_at file (get_or l i 0)) amount && holds_token file token (get_or l (i + 1) 0)) where
-    step : cond b (Covers (get_or l (i + 1) 0)) (first_covering file amount (holds_token file token) (drop (i + 2) l)) ≡ first_covering file amount (holds_token file token) l
+    step : cond b (some (get_or l (i + 1) 0)) (first_covering file amount (holds_token file token) (drop (i + 2) l)) ≡ first_covering file amount (holds_token file token) l
     unfolding first_covering
     step = rw g (rw (next-two l i h) at v.left)
 
-    pub covering-found : b ≡ true → (j : ℕ) → j ≡ get_or l (i + 1) 0 → Covers j ≡ first_covering file amount (holds_token file token) l
+    pub covering-found : b ≡ true → (j : ℕ) → j ≡ get_or l (i + 1) 0 → some j ≡ first_covering file amount (holds_token file token) l
     covering-found o j e = rw e (rw o at step)
 
     pub covering-on : b ≡ false → (last later : List ℕ) → Known file last later → length last ≡ length facts → length later ≡ length scratch →

@@ -1,10 +1,12 @@
 -- A table that is right stays right where a number that is right is written into it, and so it may be asked for the field.
-use Rattle.std.proofs.Common.{ℕ, ◌+◌, ◌≤◌, ◌<◌, ◌≡◌, refl, ◌∙◌, Bool, true, false, cond, List, arith, ltb-true, lt-ltb, le-ltb, ltb, get_or, set, replicate, length-set, get_or-set_other, drop-set-lt}
+use Rattle.std.proofs.Common.{ℕ, ◌+◌, ◌≤◌, ◌<◌, ◌≡◌, refl, ◌∙◌, Bool, true, false, cond, List, arith, ltb-true, lt-ltb, le-ltb, ltb, length, get_or, set, replicate, length-set, get_or-set_other, drop-set-lt}
 use lib.ListN.{length-replicate, get_or-replicate}
 use Rattle.laws.proofs.Tables.{written-or-kept}
 use Rattle.fields.specs.Field.{fields}
-use Rattle.tokens.specs.Numbers.{not_yet, token_of}
+use Rattle.tokens.specs.Numbers.{not_yet}
 use Rattle.reserve_tokens.specs.ReserveTokens.{reserve_token}
+use Rattle.reserve_tokens.specs.Numbers.{reserve_number}
+use Rattle.reserve_tokens.proofs.Numbers.{reserve-small}
 use Rattle.fundings.specs.Funded.{Relisted, remembered_at, state_fields, listed_from, facts_size}
 use Rattle.reserves.specs.Holding.{state_name, is_token, holds_token, Facts}
 
@@ -28,14 +30,14 @@ facts-none file facts e =
 
 module _ (file facts : List ℕ) (v : Facts file facts) (index number : ℕ) where
   -- a number that is remembered is that of the field's token
-  pub remembered-number : number ≡ remembered_at facts index → (number ≡ not_yet → ⊥) → token_of file number ≡ reserve_token (fields file) (state_name file index)
-  remembered-number e some = rw e (v.right index (λ z. some (e ∙ z)))
+  pub remembered-number : number ≡ remembered_at facts index → (number ≡ not_yet → ⊥) → number ≡ reserve_number file (state_name file index)
+  remembered-number e some = e ∙ v.right index (λ z. some (e ∙ z))
 
   -- a number that is worked out is too
-  pub worked-out : (n : List ℕ) → n ≡ state_name file index → token_of file number ≡ reserve_token (fields file) n → token_of file number ≡ reserve_token (fields file) (state_name file index)
+  pub worked-out : (n : List ℕ) → n ≡ state_name file index → number ≡ reserve_number file n → number ≡ reserve_number file (state_name file index)
   worked-out n e f = rw (← e) f
 
-  module _ (n : List ℕ) (e : n ≡ state_name file index) (f : token_of file number ≡ reserve_token (fields file) n) where
+  module _ (n : List ℕ) (e : n ≡ state_name file index) (f : number ≡ reserve_number file n) where
     written : index < state_fields → Facts file (set facts (1 + index) number)
     unfolding remembered_at
     written h =
@@ -50,7 +52,7 @@ module _ (file facts : List ℕ) (v : Facts file facts) (index number : ℕ) whe
         }
       where
         Right : (i j : ℕ) → Type 0
-        Right i j = (j ≡ not_yet → ⊥) → token_of file j ≡ reserve_token (fields file) (state_name file i)
+        Right i j = (j ≡ not_yet → ⊥) → j ≡ reserve_number file (state_name file i)
 
         go : (i : ℕ) (b : Bool) → Right i (cond b (get_or facts (1 + i) 0) not_yet) → Right i (cond b (get_or (set facts (1 + index) number) (1 + i) 0) not_yet)
         go i true p =
@@ -84,8 +86,12 @@ module _ (facts : List ℕ) (index : ℕ) where
   pub set-none : state_fields ≤ index → (n : ℕ) → facts ≡ cond (ltb index state_fields) (set facts (1 + index) n) facts
   set-none h n = rw (le-ltb index state_fields h)
 
--- the number's token is the one that is asked for
-pub by_number : (file token : List ℕ) (index number : ℕ) → token_of file number ≡ reserve_token (fields file) (state_name file index) →
-    (t : List ℕ) → t ≡ token_of file number → (r : Bool) → r ≡ is_token t token → r ≡ holds_token file token index
+-- the field's token is the one that is asked for
+pub by_token : (file token : List ℕ) (index : ℕ) (t : List ℕ) → t ≡ reserve_token (fields file) (state_name file index) →
+    (r : Bool) → r ≡ is_token t token → r ≡ holds_token file token index
 unfolding holds_token
-by_number file token index number e t f r h = rw (h, f, e)
+by_token file token index t f r h = rw (h, f)
+
+-- a number that is written has two bytes
+pub written-small : (file n : List ℕ) → length file ≤ 32768 → (number : ℕ) → number ≡ reserve_number file n → number < 65536
+written-small file n h number e = rw e (reserve-small file n h)

@@ -1,5 +1,6 @@
 -- Where no candidate has an equal amount, or the amount does not contain what comes in, nothing covers; else the first that covers does.
 use Rattle.std.proofs.Common.{ℕ, ◌-◌, ◌≤◌, ◌<◌, ◌≡◌, refl, ap, ◌∙◌, Bool, true, false, cond, List, arith, length, take, drop, length-take, drop_of_length-le}
+use mathlib.Core.Option.{Option, none}
 use lib.Seq.{take-length}
 use Rattle.laws.proofs.Slices.{drop-rest}
 use Rattle.fields.specs.Field.{front}
@@ -8,8 +9,6 @@ use Rattle.guards.specs.Asked.{asked_token, asked_amount}
 use Rattle.reserves.specs.Candidates.{Candidates}
 use Rattle.reserves.specs.Holding.{holds_token}
 use Rattle.reserves.specs.Covers.{equal_from, first_covering}
-use Rattle.reserves.specs.declared.covering.Reserve.{Reserve}
-use Rattle.reserves.specs.declared.covering.Reserve.TheVariants.{Nothing}
 use Rattle.reserves.proofs.Covered.{bounding, equal-first, none-contained, all-contained}
 
 pub candidates-room : (file : List ℕ) (place : ℕ) (asked : List ℕ) (count : ℕ) (l : List ℕ) (n : ℕ) → Candidates file place asked count l n → n ≤ length l
@@ -25,20 +24,20 @@ module _ (file : List ℕ) (place : ℕ) (amount asked : List ℕ) (count k : �
       rw (e, equal-first file (front amount) (holds_token file (asked_token file asked k)) l, ← take-length l, v.all, d)
       (all-contained file place asked k count among v.room (rw d at c) small)
 
-  pub none_equal : length l ≤ i → Nothing ≡ bounding file place asked k
+  pub none_equal : length l ≤ i → none ≡ bounding file place asked k
   unfolding first_covering
   none_equal h = go (contains_inflow (front (drop place file)) (front amount)) refl
     where
-      go : (c : Bool) → contains_inflow (front (drop place file)) (front amount) ≡ c → Nothing ≡ bounding file place asked k
+      go : (c : Bool) → contains_inflow (front (drop place file)) (front amount) ≡ c → none ≡ bounding file place asked k
       go true c = rw (drop_of_length-le l {i = i} h) at (found_first c)
       go false c = none-contained file place asked k (rw d at c)
 
-  pub first-covers : (r : Reserve) →
+  pub first-covers : (r : Option ℕ) →
       r ≡ cond (contains_inflow (front (drop place file)) (front amount))
-      (first_covering file (front amount) (holds_token file (asked_token file asked k)) (take (length l - i) (drop i l))) Nothing → r ≡ bounding file place asked k
+      (first_covering file (front amount) (holds_token file (asked_token file asked k)) (take (length l - i) (drop i l))) none → r ≡ bounding file place asked k
   first-covers r q = q ∙ rw (drop-rest l i) (go (contains_inflow (front (drop place file)) (front amount)) refl)
     where
       go : (c : Bool) → contains_inflow (front (drop place file)) (front amount) ≡ c →
-          cond c (first_covering file (front amount) (holds_token file (asked_token file asked k)) (drop i l)) Nothing ≡ bounding file place asked k
+          cond c (first_covering file (front amount) (holds_token file (asked_token file asked k)) (drop i l)) none ≡ bounding file place asked k
       go true c = found_first c
       go false c = none-contained file place asked k (rw d at c)

@@ -1,4 +1,4 @@
--- The answer as the code gives it: the number of the state field that covers, among all.
+-- The state field that covers a payout, by its number among all.
 use Rattle.std.specs.Prelude.{ℕ, Bool, cond, ◌&&◌, List, [], ◌∷◌, drop}
 use Rattle.std.proofs.Math.Option.{Option, none, some}
 use Rattle.fields.specs.Field.{Field, Fields, front, part}
@@ -8,10 +8,15 @@ use Rattle.reserves.specs.Candidates.{state_index}
 use Rattle.reserves.specs.declared.covering.Reserve.{Reserve}
 use Rattle.reserves.specs.declared.covering.Reserve.TheVariants.{Covers, Nothing}
 
--- the state field that was found, by its number
-unfoldable pub reserve_of : Fields → Option (List ℕ) → Reserve
-reserve_of model none = Nothing
-reserve_of model (some r) = Covers (state_index model r)
+-- of each answer of the code the number, if a state field covers
+abbrev pub index_of : Reserve → Option ℕ
+index_of (Covers i) = some i
+index_of Nothing = none
+
+-- of the state field that was found, if one was
+unfoldable pub index_in : Fields → Option (List ℕ) → Option ℕ
+index_in model none = none
+index_in model (some r) = some (state_index model r)
 
 -- the amount of the guard that stands at a place
 unfoldable pub amount_at : List ℕ → ℕ → Field
@@ -24,7 +29,7 @@ equal_from file amount (n ∷ []) = []
 equal_from file amount (n ∷ i ∷ l) = cond (expr_eq (amount_at file n) amount) (n ∷ i ∷ l) (equal_from file amount l)
 
 -- the state field of the first pair whose guard bounds the amount and whose field passes
-unfoldable pub first_covering : List ℕ → Field → (ℕ → Bool) → List ℕ → Reserve
-first_covering file amount holds [] = Nothing
-first_covering file amount holds (n ∷ []) = Nothing
-first_covering file amount holds (n ∷ i ∷ l) = cond (expr_eq (amount_at file n) amount && holds i) (Covers i) (first_covering file amount holds l)
+unfoldable pub first_covering : List ℕ → Field → (ℕ → Bool) → List ℕ → Option ℕ
+first_covering file amount holds [] = none
+first_covering file amount holds (n ∷ []) = none
+first_covering file amount holds (n ∷ i ∷ l) = cond (expr_eq (amount_at file n) amount && holds i) (some i) (first_covering file amount holds l)

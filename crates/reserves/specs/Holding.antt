@@ -3,8 +3,9 @@ use Rattle.std.specs.Prelude.{ℕ, ◌*◌, ◌≤◌, ◌≡◌, Bool, ◌&&◌
 use Rattle.laws.specs.Texts.{same_bytes, known}
 use Rattle.fields.specs.Field.{fields}
 use Rattle.model.specs.Model.{state_names}
-use Rattle.tokens.specs.Numbers.{not_yet, token_of}
+use Rattle.tokens.specs.Numbers.{not_yet}
 use Rattle.reserve_tokens.specs.ReserveTokens.{reserve_token}
+use Rattle.reserve_tokens.specs.Numbers.{reserve_number}
 use Rattle.fundings.specs.Funded.{Funded, remembered_at}
 
 -- the name of the i-th state field
@@ -19,11 +20,11 @@ is_token t u = known u && same_bytes t u
 unfoldable pub holds_token : (file token : List ℕ) → ℕ → Bool
 holds_token file token i = is_token (reserve_token (fields file) (state_name file i)) token
 
--- what a table says of a file is right: of the calls that fund a map, and of each state field that is worked out, that the number
--- remembered is that of the token that the field holds, 1 where it holds none
+-- what a table says of a file is right: of the calls that fund a map, and of each state field that is worked out, that what is
+-- remembered is the number of the token that it holds
 pub record Facts (file facts : List ℕ) : Type 0 where
   pub funded : Funded file facts
-  pub right : (i : ℕ) → (remembered_at facts i ≡ not_yet → ⊥) → token_of file (remembered_at facts i) ≡ reserve_token (fields file) (state_name file i)
+  pub right : (i : ℕ) → (remembered_at facts i ≡ not_yet → ⊥) → remembered_at facts i ≡ reserve_number file (state_name file i)
 
 -- a file that passes question 1, with what is known of it, and a scratch table with a number for each three bytes of it
 pub record Known (file facts scratch : List ℕ) : Type 0 where

@@ -1,11 +1,12 @@
 // SPDX-License-Identifier: Apache-2.0 OR MIT
 // Whether a state field holds a token that is asked for. A field's token is worked out once for all entries of a file and then
 // remembered, in a table that the caller lends, by its number; 1 where the field holds none.
-ghost use Rattle.std.specs.Prelude.{◌≡◌, cond, ◌+◌, ◌<◌, ltb, length, set};
-ghost use Rattle.tokens.specs.Numbers.{token_of};
+ghost use Rattle.std.specs.Prelude.{◌≡◌, cond, ◌+◌, ◌<◌, ltb, length, set, take, drop};
+ghost use Rattle.tokens.specs.Place.{token_place};
 ghost use Rattle.fundings.specs.Funded.{state_fields, remembered_at};
 ghost use Rattle.fields.specs.Field.{fields};
 ghost use Rattle.reserve_tokens.specs.ReserveTokens.{reserve_token};
+ghost use Rattle.reserve_tokens.specs.Numbers.{reserve_number};
 ghost use Rattle.reserves.specs.Holding.{state_name, is_token, holds_token, Facts, Known};
 
 use fields::bytes::same_bytes;
@@ -60,7 +61,7 @@ fn remembered(facts: &[u16], index: usize) -> usize
 // The number of the token that the state field of that number holds, worked out and remembered.
 fn work_out(file: &[u8], index: usize, facts: &mut [u16], scratch: &mut [u16]) -> usize
     requires { Known file.now facts.old scratch.old }
-    ensures reads { token_of file.now result ≡ reserve_token (fields file.now) (state_name file.now index) }
+    ensures number { result ≡ reserve_number file.now (state_name file.now index) }
     ensures facts { Facts file.now facts.new }
 {
     let number = reserve_number(file, state_name(file, index), facts, scratch);
@@ -71,7 +72,7 @@ fn work_out(file: &[u8], index: usize, facts: &mut [u16], scratch: &mut [u16]) -
 // The same, by what is remembered of the field where something is.
 fn held_number(file: &[u8], index: usize, facts: &mut [u16], scratch: &mut [u16]) -> usize
     requires { Known file.now facts.old scratch.old }
-    ensures reads { token_of file.now result ≡ reserve_token (fields file.now) (state_name file.now index) }
+    ensures number { result ≡ reserve_number file.now (state_name file.now index) }
     ensures facts { Facts file.now facts.new }
 {
     let number = remembered(facts, index);
@@ -79,6 +80,16 @@ fn held_number(file: &[u8], index: usize, facts: &mut [u16], scratch: &mut [u16]
         return number;
     }
     work_out(file, index, facts, scratch)
+}
+
+// The token that the state field of that number holds; no bytes where it holds none.
+fn held_token<'a>(file: &'a [u8], index: usize, facts: &mut [u16], scratch: &mut [u16]) -> &'a [u8]
+    requires { Known file.now facts.old scratch.old }
+    ensures reads { result.now ≡ reserve_token (fields file.now) (state_name file.now index) }
+    ensures shows { result.now ≡ take (length result.now) (drop (token_place file.now (reserve_number file.now (state_name file.now index))) file.now) }
+    ensures facts { Facts file.now facts.new }
+{
+    token_of(file, held_number(file, index, facts, scratch))
 }
 
 // Whether the state field of that number holds a token. The scratch table has a number for each three bytes of the file.
@@ -93,6 +104,5 @@ pub fn holds_token(
     ensures holds { result ≡ holds_token file.now token.now index }
     ensures facts { Facts file.now facts.new }
 {
-    let number = held_number(file, index, facts, scratch);
-    is_token(token_of(file, number), token)
+    is_token(held_token(file, index, facts, scratch), token)
 }

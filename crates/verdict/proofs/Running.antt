@@ -87,7 +87,7 @@ pub record Running (file : List ℕ) (en : Entry) (candidates start facts lent s
   pub held : length facts ≡ length start
   pub long : length scratch ≡ length lent
   pub room : length file ≤ 3 * length lent
-  pub admits : Admitted (drop en.place file) pass.admitted
+  pub admits : Admitted file en.place pass.admitted
   pub uses : pass.marks.uses ≤ k
   pub stands : Stands (backings_of file en.place) pass.marks state
   pub within : Within (fields file) (entry_of file en.place) state
@@ -216,7 +216,7 @@ module _ (file : List ℕ) (en : Entry) (candidates : List ℕ) where
               v.rest ∙ rw (left_over, match_from, same, next) (one_more v.done (cover_of c) (match_from model entry answers.after (suc k) (drop (suc k) (payouts entry))))
 
           pub running-on : r.pass.marks.uses ≤ pass.marks.uses + 1 → (last : List ℕ) → Facts file last → (used : List ℕ) → length used ≡ length scratch →
-              (next : Pass) → next ≡ r.pass → Admitted (drop en.place file) r.pass.admitted → (u : List ℕ) → u ≡ sets bytes (3 * k) (cover_bytes (cover_of c)) →
+              (next : Pass) → next ≡ r.pass → Admitted file en.place r.pass.admitted → (u : List ℕ) → u ≡ sets bytes (3 * k) (cover_bytes (cover_of c)) →
               Running file en candidates start last lent used u next (k + 1)
           running-on less last right used same-used next z admits u w =
               let three : u ≡ sets bytes (3 * k) (sheet (cover_of c ∷ [])) = w ∙ ap (λ l. sets bytes (3 * k) l) (bytes_of (cover_of c) index-small) in
