@@ -2,12 +2,12 @@
 -- reserves by themselves, computed too.
 use Rattle.std.proofs.Common.{ℕ, ◌≡◌, refl, List, [], ◌∷◌, ◌++◌, replicate}
 use Prim.Native.String.{String}
+use mathlib.Core.Option.{none, some}
 use Rattle.tags.specs.Tag.{Genesis, Limits, Denies, Set, AddTo, SubtractFrom, Not, Call, Checked, Wrapping, Or, And, Eq, Ne, Lt, Ge, Add, Sub, Rem, Shr}
 use Rattle.tags.specs.Tag.{String as StringTag}
 use Rattle.fields.proofs.Writing.{write, word, integer, identifier}
 use Rattle.matching.specs.Matching.Cover.{equal_debit, equal_parameter, bounding_debit, bounding_parameter, reserve}
 use Rattle.matching.specs.Matching.Reason.{conflict_at_equal, conflict_at_bounding, no_reserve, reserve_used}
-use Rattle.reserves.specs.declared.covering.Reserve.TheVariants.{Covers, Nothing}
 use Rattle.claim.specs.Verdict.{rejected, accepted, written, sheet, kind, index}
 use Rattle.claim.proofs.Samples.{Row, about, found, stated, left, reserve_in, entry, one, state, asset, plain, guard, statement, caller}
 use Rattle.claim.proofs.Samples.{in_asset, holds, n, amount, half, less_one, member, debit, send, double, raising, drawing, k3, k11, k12}
@@ -105,10 +105,10 @@ backed =
 -- the reserves by themselves: of K11, of K12, of two payouts of one amount, of which neither uses it up, and of one that is
 -- backed; none of a payout or an entry that is not there
 alone : reserve_in k11 1 0 ∷ reserve_in k12 1 0 ∷ reserve_in again 2 0 ∷ reserve_in again 2 1 ∷ reserve_in backed 1 0 ∷ []
-    ≡ Covers 0 ∷ Nothing ∷ Covers 1 ∷ Covers 1 ∷ Covers 0 ∷ []
+    ≡ some 0 ∷ none ∷ some 1 ∷ some 1 ∷ some 0 ∷ []
 unfolding reserve_in
 alone = refl
 
-absent : reserve_in k11 1 1 ∷ reserve_in k11 0 0 ∷ reserve_in k11 2 0 ∷ reserve_in [] 0 0 ∷ [] ≡ replicate 4 Nothing
+absent : reserve_in k11 1 1 ∷ reserve_in k11 0 0 ∷ reserve_in k11 2 0 ∷ reserve_in [] 0 0 ∷ [] ≡ replicate 4 none
 unfolding reserve_in
 absent = refl

@@ -1,6 +1,7 @@
 -- Entries written by hand, and what the definitions say of them.
 use Rattle.std.proofs.Common.{ℕ, ◌≡◌, refl, List, [], ◌∷◌, ◌++◌, map, length}
 use mathlib.Core.List.{flat_map}
+use mathlib.Core.Option.{Option}
 use Prim.Native.String.{String}
 use Rattle.laws.specs.Lists.{any, all, filter, find, remove_first, position, numbered}
 use Rattle.laws.specs.Texts.{same_bytes, known}
@@ -25,8 +26,7 @@ use Rattle.guards.specs.Payouts.{payout_token, payout_amount}
 use Rattle.reserves.specs.Reserves.{reserve_covers, reserve_bounding_payout}
 use Rattle.matching.specs.Matching.{debit_backings, parameter_backings, backings, equals, bounds, take_backing, take_reserve, by_reserve, by_bounding, not_taken, by_equal, answer, start}
 use Rattle.reserves.specs.Candidates.{state_index}
-use Rattle.reserves.specs.Covers.{reserve_of}
-use Rattle.reserves.specs.declared.covering.Reserve.{Reserve}
+use Rattle.reserves.specs.Covers.{index_in}
 use Rattle.claim.specs.Verdict.{Verdict, match_from, matching, backing_count, entry_at, ask_entry, entry_verdict, verdict, kind, index, sheet, written}
 use Rattle.claim.specs.Reserve.{payout_reserve}
 
@@ -68,10 +68,10 @@ unfoldable pub left : List ℕ → ℕ → List ℕ → List ℕ
 unfolding found written sheet kind index
 left file n lent = written (verdict file n (length lent)) lent
 
--- the state field that covers a payout by itself
-unfoldable pub reserve_in : List ℕ → ℕ → ℕ → Reserve
-unfolding found payout_reserve reserve_of state_index
-reserve_in file n k = reserve_of (fields file) (payout_reserve (fields file) (entry_at (fields file) n).this k)
+-- the number of the state field that covers a payout by itself
+unfoldable pub reserve_in : List ℕ → ℕ → ℕ → Option ℕ
+unfolding found payout_reserve index_in state_index
+reserve_in file n k = index_in (fields file) (payout_reserve (fields file) (entry_at (fields file) n).this k)
 
 -- Files
 

@@ -111,7 +111,7 @@ module _ (file : List ℕ) (en : Entry) (candidates : List ℕ) where
         held = refl;
         long = refl;
         room = room;
-        admits = admits-nothing (drop en.place file);
+        admits = admits-nothing file en.place;
         uses = rw e (omega arith);
         stands = rw e (start-stands (fields file) (entry_of file en.place) few);
         within = λ f k. k;

@@ -94,15 +94,20 @@ fn match_payouts(
 
 // Lists the calls of the file that fund a map, where a payout can ask for a map's token: that of a debit or, of a state field
 // that a guard bounds the amount by, those of the maps that its raises come from.
-fn list_if_asked(file: &[u8], debits: usize, candidates: usize, facts: &mut [u16]) -> usize
-    requires short { length file.now ≤ 32768 }
-    requires facts { Facts file.now facts.old }
+fn list_if_asked(
+    file: &[u8],
+    debits: usize,
+    candidates: usize,
+    facts: &mut [u16],
+    scratch: &mut [u16],
+) -> usize
+    requires { Known file.now facts.old scratch.old }
     ensures { Facts file.now facts.new }
 {
     if (debits == 0) & (candidates == 0) {
         return 0;
     }
-    list_facts(file, facts)
+    list_facts(file, facts, scratch)
 }
 
 // The entry past questions 10 to 12. The table serves for the guards that can matter.
@@ -123,7 +128,7 @@ fn cover_payouts(
     ensures facts { Facts file.now facts.new }
 {
     let count = list_candidates(file, entry, table, scratch);
-    let listed = list_if_asked(file, entry.debits, count, facts);
+    let listed = list_if_asked(file, entry.debits, count, facts, scratch);
     match_payouts(file, entry, &table[..count], facts, scratch, covers)
 }
 
