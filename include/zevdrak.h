@@ -1,7 +1,8 @@
 /* SPDX-License-Identifier: Apache-2.0 OR MIT */
 /* The payout checker for Quanta contracts, proved. `rt lib` in crates/export makes the library: crates/export/out/libexport.a.
    A slice is a pointer and then a length; where the length is 0 the pointer is not read, and must not be null all the same.
-   No function keeps what it is lent. Any bytes may be given. docs/USING.md says what each answer means. */
+   No function keeps what it is lent. Any bytes may be given. docs/USING.md says what each answer means. What the library has for
+   comparisons alone stands in zevdrak_compare.h. */
 #ifndef ZEVDRAK_H
 #define ZEVDRAK_H
 
@@ -40,10 +41,5 @@ size_t zevdrak_listing(const uint8_t *file, size_t file_length, uint8_t *out, si
 
 /* Questions 1 to 8 of a file: 0 if all pass, else the number of the first "no", whose place is then written. */
 uint8_t zevdrak_check_file(const uint8_t *file, size_t file_length, size_t *place);
-
-/* The number of the state field that covers a payout of an entry by itself, whatever else backs the payout and whether or not
-   another one uses the field. All are counted from 0. Where none does, ZEVDRAK_NO_RESERVE. */
-#define ZEVDRAK_NO_RESERVE 65535
-size_t zevdrak_reserve_bounding_payout(const uint8_t *file, size_t file_length, size_t entry, size_t payout);
 
 #endif

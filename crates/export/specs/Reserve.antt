@@ -1,17 +1,23 @@
--- A state field that covers a payout, as a number, for a caller in C.
-use Rattle.std.specs.Prelude.{ℕ, cond, List, leb, length}
-use Rattle.std.proofs.Math.Option.{Option, none, some}
-use Rattle.fields.specs.Field.{Fields, fields}
-use Rattle.reserves.specs.Candidates.{state_index}
-use Rattle.claim.specs.Verdict.{entry_at}
-use Rattle.claim.specs.Reserve.{payout_reserve}
+-- The answer about the state field that covers a payout by itself, as numbers for a caller in C.
+use Rattle.std.specs.Prelude.{ℕ}
+use Rattle.payout_reserve.specs.Answer.{ReserveAnswer}
+use Rattle.payout_reserve.specs.Answer.ReserveAnswer.{refused, covered, uncovered}
 
--- the number of the field among the state fields, counted from 0; 65,535 for none, since no file has as many
-unfoldable pub number_in : Fields → Option (List ℕ) → ℕ
-number_in model none = 65535
-number_in model (some r) = state_index model r
+-- what it is: 0 a state field covers the payout, 1 none does, 2 refused
+abbrev pub reserve_outcome : ReserveAnswer → ℕ
+reserve_outcome (covered number) = 0
+reserve_outcome uncovered = 1
+reserve_outcome (refused number place) = 2
 
--- that of the field that covers payout k of entry n by itself, in a file that is not longer than question 1 allows
-unfoldable pub reserve_number : List ℕ → (n k : ℕ) → ℕ
-reserve_number file n k =
-    cond (leb (length file) 32768) (number_in (fields file) (payout_reserve (fields file) (entry_at (fields file) n).this k)) 65535
+-- the first number: that of the field among the state fields, counted from 0; 65,535 for none, since no file has as many; or
+-- the question that said no
+abbrev pub reserve_first : ReserveAnswer → ℕ
+reserve_first (covered number) = number
+reserve_first uncovered = 65535
+reserve_first (refused number place) = number
+
+-- the second: the place of the "no", and otherwise 0
+abbrev pub reserve_second : ReserveAnswer → ℕ
+reserve_second (covered number) = 0
+reserve_second uncovered = 0
+reserve_second (refused number place) = place

@@ -1,1 +1,3 @@
 pub mod Reserving
+pub mod Asking
+pub mod Examples

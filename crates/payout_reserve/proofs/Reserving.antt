@@ -2,24 +2,23 @@
 -- table, which has room for all.
 use Rattle.std.proofs.Common.{ℕ, ◌*◌, ◌≤◌, ◌<◌, ◌≡◌, refl, ap, ◌∙◌, false, ◌&&◌, List, [], arith, length, get_or, set, replicate, take}
 use mathlib.Core.Bool.{and-false}
-use mathlib.Core.List.{flat_map}
 use mathlib.Core.Option.{none}
 use lib.ListN.{length-replicate, get_or-eq_default}
 use Rattle.laws.specs.Texts.{known, same_bytes}
-use Rattle.laws.specs.Lists.{any, filter}
+use Rattle.laws.specs.Lists.{any}
 use Rattle.laws.proofs.Finding.{find_none}
 use Rattle.tags.specs.Tag.{Call, is_wrapper}
-use Rattle.fields.specs.Field.{Field, Fields, fields, nothing, nth, placed}
+use Rattle.fields.specs.Field.{Field, Fields, fields, nothing, nth}
 use Rattle.fields.specs.Table.{Listed, fields_at}
-use Rattle.model.specs.Model.{entries, body, state_names}
-use Rattle.walking.specs.Walking.{peel, ident, body_exprs, exprs, payouts, is_payout}
+use Rattle.model.specs.Model.{body, state_names}
+use Rattle.walking.specs.Walking.{peel, ident, body_exprs, payouts, is_payout}
 use Rattle.walking.specs.Table.{most_fields, placed_at, places_of}
 use Rattle.walking.proofs.Calls.{payout-call}
 use Rattle.guards.specs.Guards.{contains_inflow, guarded_by, lowers}
 use Rattle.guards.specs.Payouts.{payout_token}
 use Rattle.guards.specs.Asked.{asked_token, paid_at, asked_amount, inflow_amounts}
 use Rattle.entries.specs.Calls.{places_where}
-use Rattle.entries.specs.Entered.{entry_of, nowhere, CallsOf, Lent}
+use Rattle.entries.specs.Entered.{entry_of, CallsOf, Lent}
 use Rattle.entries.proofs.Called.{where-counted, where-read, payouts-where}
 use Rattle.entries.proofs.Reading.{calls-fit, calls-part, calls-all, places-few, table-long, field-there}
 use Rattle.reserves.specs.Reserves.{reserve_covers, reserve_bounding_payout}
@@ -29,11 +28,6 @@ use Rattle.reserves.specs.declared.covering.Reserve.{Reserve}
 use Rattle.reserves.specs.declared.covering.Reserve.TheVariants.{Nothing}
 use Rattle.claim.specs.Claim.{payout_at}
 use Rattle.claim.specs.Reserve.{payout_reserve}
-use Rattle.claim.specs.Verdict.{entry_at}
-use Rattle.verdict.specs.Place.{Found}
-use Rattle.verdict.specs.declared.entry.Place.{Place}
-use Rattle.verdict.specs.declared.entry.Place.TheVariants.{At, Nowhere}
-use Rattle.verdict.proofs.Asking.{entry-missing, entry-there}
 use Rattle.verdict.proofs.Preparing.{numbers_fit, numbers-part, numbers-exact}
 use Rattle.payout_reserve.specs.Asked.{asked_reserve}
 
@@ -120,23 +114,3 @@ module _ (file : List ℕ) (place : ℕ) (calls : List ℕ) (c : CallsOf file pl
   pub payout-found : (k : ℕ) → k < m → (r : Reserve) → r ≡ asked_reserve file place table k → r ≡ reserve_of model (payout_reserve model entry k)
   unfolding payout_reserve asked_reserve asked_token asked_amount paid_at
   payout-found k h r j = j ∙ rw (field-there file table m (payouts entry) read counted k h)
-
--- The entry at its place
-
-no-payouts : payouts nothing ≡ []
-unfolding payouts exprs body_exprs placed filter flat_map
-no-payouts = refl
-
-module _ (file : List ℕ) (n k : ℕ) (s : Place) (e : Found file n s) where
-  pub reserve-missing : s ≡ Nowhere → Nothing ≡ reserve_of (fields file) (payout_reserve (fields file) (entry_at (fields file) n).this k)
-  reserve-missing f =
-      let g : (entry_at (fields file) n).this ≡ nothing = ap (λ p. p.this) (get_or-eq_default (entries (fields file)) nowhere (entry-missing file n s e f)) in
-      unpaid (fields file) (entry_at (fields file) n).this k (rw (g, no-payouts))
-
-  pub reserve-there : (place : ℕ) → s ≡ At place → (r : Reserve) →
-      r ≡ reserve_of (fields file) (payout_reserve (fields file) (entry_of file place) k) →
-      r ≡ reserve_of (fields file) (payout_reserve (fields file) (entry_at (fields file) n).this k)
-  reserve-there place f r g = rw (entry-there file n s e place f) g
-
-  pub place_inside : (place : ℕ) → s ≡ At place → place ≤ length file
-  place_inside place f = e.inside place f

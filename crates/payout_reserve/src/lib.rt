@@ -1,19 +1,21 @@
 // SPDX-License-Identifier: Apache-2.0 OR MIT
 // The state field that covers a payout by itself, for those who compare it: the verdict asks for it only where no backing
-// decides, and uses it up.
+// decides, and uses it up. The questions about the file and the entry come first, as they do before a verdict.
 #![tactic(auto)]
 
 ghost use Rattle.std.specs.Prelude.{◌≡◌, ◌≤◌, ◌<◌, length};
 ghost use Rattle.fields.specs.Field.{fields};
 ghost use Rattle.reserves.specs.Covers.{reserve_of};
 ghost use Rattle.entries.specs.Entered.{entry_of, CallsOf};
-ghost use Rattle.claim.specs.Verdict.{entry_at};
 ghost use Rattle.claim.specs.Reserve.{payout_reserve};
+ghost use Rattle.payout_reserve.specs.Answer.{entry_reserve, file_reserve, answer_of};
 ghost use Rattle.payout_reserve.specs.Asked.{asked_reserve};
 
 use entries::calls::list_payouts;
 use entries::entry::Entry;
 use fundings::facts::nothing_known;
+use questions::check::Answer;
+use questions::file::check_file;
 use reserves::candidates::list_candidates;
 use reserves::covering::{Reserve, reserve_bounding_payout};
 use tags::CALL;
@@ -75,13 +77,40 @@ fn reserve_at(file: &[u8], place: usize, k: usize) -> Reserve
     reserve_among(file, place, &calls[..count], k)
 }
 
-// That of the k-th payout of the n-th entry, both counted from 0.
-pub fn payout_reserve(file: &[u8], n: usize, k: usize) -> Reserve
+// A "no" to a question; the number of the state field that covers the payout, counted from 0; or that none does.
+#[derive(Drop)]
+pub enum ReserveAnswer {
+    Refused { number: u8, place: usize },
+    Covered { index: usize },
+    Uncovered,
+}
+
+// The answer about the k-th payout of the n-th entry of a file that passes questions 1 to 8: question 9 comes first.
+fn entry_reserve(file: &[u8], n: usize, k: usize) -> ReserveAnswer
     requires { length file.now ≤ 32768 }
-    ensures { result ≡ reserve_of (fields file.now) (payout_reserve (fields file.now) (entry_at (fields file.now) n).this k) }
+    ensures { answer_of result ≡ entry_reserve (fields file.now) n k }
 {
     match place_of_entry(file, n) {
-        Place::Nowhere => Reserve::Nothing,
-        Place::At { place } => reserve_at(file, place, k),
+        Place::Nowhere => ReserveAnswer::Refused {
+            number: 9,
+            place: 0,
+        },
+        Place::At { place } => match reserve_at(file, place, k) {
+            Reserve::Covers { index } => ReserveAnswer::Covered { index: index },
+            Reserve::Nothing => ReserveAnswer::Uncovered,
+        },
+    }
+}
+
+// The same of any file: questions 1 to 9 come first. Both numbers are counted from 0.
+pub fn payout_reserve(file: &[u8], n: usize, k: usize) -> ReserveAnswer
+    ensures { answer_of result ≡ file_reserve file.now n k }
+{
+    match check_file(file) {
+        Answer::Refused { number, place } => ReserveAnswer::Refused {
+            number: number,
+            place: place,
+        },
+        Answer::Passes => entry_reserve(file, n, k),
     }
 }

@@ -3,17 +3,32 @@
 //! to 8 beside the decoder; equality and bounds of every pair of expressions of
 //! an entry's body, the token that each entry admits, the one that funds each
 //! map, and the state field that covers each payout by itself, beside the
-//! original's functions of the same name.
+//! original's functions of the same name. In a file that a question refuses the
+//! last is refused as the verdict is.
 
 use model_file::decode;
 use oracle::Model;
 use quanta_ast::{EntryDecl, Expr};
 use std::collections::BTreeSet;
 use std::process::ExitCode;
+use zevdrak::{
+    check_file,
+    compare::{
+        bounded_by_backing, expr_eq, is_admitted_inflow_token, is_ledger_funding_token,
+        is_reserve_token, reserve_bounding_payout,
+    },
+    verdict, Refusal, Verdict, COVERS,
+};
 
 /// How many expressions of an entry are paired, if nothing else is said: a few
 /// files have thousands, and pairs take most of the time.
 const PAIRED: usize = 100;
+
+/// What an entry past the last is refused with.
+const NO_ENTRY: Refusal = Refusal {
+    number: 9,
+    place: 0,
+};
 
 /// What was compared.
 #[derive(Default)]
@@ -72,18 +87,21 @@ fn main() -> ExitCode {
 /// One file, or what differs.
 fn compare(file: &[u8], paired: usize, counts: &mut Counts) -> Result<(), String> {
     counts.files += 1;
-    let ours = zevdrak::check_file(file).map_err(|refusal| (refusal.number, refusal.place));
-    let theirs = decode(file);
-    let expected = theirs
-        .as_ref()
-        .map(|_| ())
-        .map_err(|refusal| (refusal.number as u8, refusal.place));
+    let ours = check_file(file);
+    let theirs = decode(file).map_err(|refusal| Refusal {
+        number: refusal.number,
+        place: refusal.place,
+    });
+    let expected = theirs.as_ref().map(|_| ()).map_err(|refusal| *refusal);
     if ours != expected {
         return Err(format!("questions: {ours:?}, expected {expected:?}"));
     }
-    let Ok(contract) = theirs else {
-        counts.refused += 1;
-        return Ok(());
+    let contract = match theirs {
+        Ok(contract) => contract,
+        Err(refusal) => {
+            counts.refused += 1;
+            return compare_refused(file, 0, refusal);
+        }
     };
     let model = Model::build(&contract);
     let mut maps = BTreeSet::new();
@@ -98,12 +116,28 @@ fn compare(file: &[u8], paired: usize, counts: &mut Counts) -> Result<(), String
         expressions.truncate(paired);
         compare_pairs(file, &expressions, counts)?;
     }
+    compare_refused(file, model.entries.len(), NO_ENTRY)?;
     maps.iter()
         .try_for_each(|map| compare_funding(file, &model, map, counts))?;
     model
         .state
         .keys()
         .try_for_each(|field| compare_held(file, &model, field, counts))
+}
+
+/// What refuses an entry of a file: the reserves of its payouts as its verdict.
+fn compare_refused(file: &[u8], entry: usize, refusal: Refusal) -> Result<(), String> {
+    let told = verdict(file, entry, &mut [0; COVERS]);
+    if told != Verdict::Refused(refusal) {
+        return Err(format!("verdict: {told:?}, expected {refusal:?}"));
+    }
+    for payout in 0..2 {
+        let reserve = reserve_bounding_payout(file, entry, payout);
+        if reserve != Err(refusal) {
+            return Err(format!("reserve: {reserve:?}, expected {refusal:?}"));
+        }
+    }
+    Ok(())
 }
 
 /// The token that a state field holds.
@@ -117,7 +151,7 @@ fn compare_held(
     counts.fields += 1;
     counts.holding += u64::from(token.is_some());
     let expected = token.as_deref().unwrap_or_default();
-    match zevdrak::is_reserve_token(file, field.as_bytes(), expected.as_bytes()) {
+    match is_reserve_token(file, field.as_bytes(), expected.as_bytes()) {
         true => Ok(()),
         false => Err(format!("held token: {token:?} expected of {field}")),
     }
@@ -135,8 +169,8 @@ fn compare_reserves(
     counts.covered += covered;
     counts.uncovered += reserves.len() as u64 - covered;
     for (payout, expected) in reserves.into_iter().chain([None]).enumerate() {
-        let ours = zevdrak::reserve_bounding_payout(file, entry, payout);
-        if ours != expected {
+        let ours = reserve_bounding_payout(file, entry, payout);
+        if ours != Ok(expected) {
             return Err(format!(
                 "reserve: {ours:?}, expected {expected:?} of payout {payout} of entry {entry}"
             ));
@@ -164,7 +198,7 @@ fn compare_admitted(file: &[u8], entry: &EntryDecl, counts: &mut Counts) -> Resu
     let token = oracle::admitted_token(entry);
     counts.admitting += u64::from(token.is_some());
     let expected = token.as_deref().unwrap_or_default();
-    match zevdrak::is_admitted_inflow_token(&file[entry.span.start..], expected.as_bytes()) {
+    match is_admitted_inflow_token(&file[entry.span.start..], expected.as_bytes()) {
         true => Ok(()),
         false => Err(format!(
             "admitted token: {token:?} expected of {}",
@@ -185,7 +219,7 @@ fn compare_funding(
     counts.maps += 1;
     counts.funded += u64::from(single.is_some());
     let expected = single.map_or("", String::as_str);
-    match zevdrak::is_ledger_funding_token(file, map.as_bytes(), expected.as_bytes()) {
+    match is_ledger_funding_token(file, map.as_bytes(), expected.as_bytes()) {
         true => Ok(()),
         false => Err(format!("funding token: {single:?} expected of {map}")),
     }
@@ -198,15 +232,13 @@ fn compare_pairs(file: &[u8], expressions: &[Expr], counts: &mut Counts) -> Resu
             counts.pairs += 1;
             let equal = oracle::equal(a, b);
             counts.equal += u64::from(equal);
-            if zevdrak::expr_eq(part(file, a), part(file, b)) != equal {
+            if expr_eq(part(file, a), part(file, b)) != equal {
                 return Err(format!("equality: {equal} expected of {a:?} and {b:?}"));
             }
             for wrapping in [false, true] {
                 let bounded = oracle::bounds(a, b.peel(), wrapping);
                 counts.bounded += u64::from(bounded);
-                if zevdrak::bounded_by_backing(part(file, a), part(file, b.peel()), wrapping)
-                    != bounded
-                {
+                if bounded_by_backing(part(file, a), part(file, b.peel()), wrapping) != bounded {
                     return Err(format!(
                         "bounds, wrapping {wrapping}: {bounded} expected of {a:?} and {b:?}"
                     ));

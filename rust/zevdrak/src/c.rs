@@ -1,6 +1,7 @@
 // SPDX-License-Identifier: Apache-2.0 OR MIT
 //! The functions of crates/export, as C sees them: a slice is a pointer and
-//! then a length. The header is include/zevdrak.h.
+//! then a length. The headers are include/zevdrak.h and, of those for
+//! comparisons, include/zevdrak_compare.h.
 
 extern "C" {
     pub fn zevdrak_verdict(
@@ -26,6 +27,10 @@ extern "C" {
         out_length: usize,
     ) -> usize;
     pub fn zevdrak_check_file(file: *const u8, length: usize, place: *mut usize) -> u8;
+}
+
+// For comparisons.
+extern "C" {
     pub fn zevdrak_expr_eq(a: *const u8, a_length: usize, b: *const u8, b_length: usize) -> bool;
     pub fn zevdrak_bounded_by_backing(
         amount: *const u8,
@@ -61,5 +66,7 @@ extern "C" {
         file_length: usize,
         entry: usize,
         payout: usize,
-    ) -> usize;
+        first: *mut usize,
+        second: *mut usize,
+    ) -> u8;
 }

@@ -14,17 +14,14 @@
 //! ```
 //!
 //! Every function takes any bytes, keeps nothing, and may be called from any
-//! thread. What a refusal and a rejection mean is in docs/USING.md.
+//! thread. What a refusal and a rejection mean is in docs/USING.md. The module
+//! [`compare`] is for comparisons with the original alone, and has limits.
 
 mod c;
+pub mod compare;
 mod contract;
-mod helpers;
 
 pub use contract::{contract, contract_into, Contract, Entry, Outcome, Records, RECORDS};
-pub use helpers::{
-    bounded_by_backing, check_file, expr_eq, is_admitted_inflow_token, is_ledger_funding_token,
-    is_reserve_token, reserve_bounding_payout,
-};
 
 /// Bytes of covers that are enough for every entry: 3 for each of 64 payouts.
 pub const COVERS: usize = 192;
@@ -112,10 +109,15 @@ fn told(answer: u8, first: usize, second: usize) -> Verdict {
             payout: first,
             reason: reason(second),
         },
-        _ => Verdict::Refused(Refusal {
-            number: first as u8,
-            place: second,
-        }),
+        _ => Verdict::Refused(refusal(first, second)),
+    }
+}
+
+/// The refusal that the library tells by its two numbers.
+fn refusal(first: usize, second: usize) -> Refusal {
+    Refusal {
+        number: first as u8,
+        place: second,
     }
 }
 
@@ -146,6 +148,16 @@ pub fn covers(bytes: &[u8]) -> Vec<Cover> {
         Some(Cover { kind, index })
     };
     bytes.chunks_exact(3).filter_map(cover).collect()
+}
+
+/// Questions 1 to 8, about the file.
+pub fn check_file(file: &[u8]) -> Result<(), Refusal> {
+    let mut place = 0;
+    // The function reads the slice, writes the place, and keeps neither.
+    match unsafe { c::zevdrak_check_file(file.as_ptr(), file.len(), &mut place) } {
+        0 => Ok(()),
+        number => Err(Refusal { number, place }),
+    }
 }
 
 /// The listing of a model file, as the program `payouts` prints it.

@@ -1,12 +1,12 @@
--- The entry is not there, or stands at its place.
-use Rattle.payout_reserve.proofs.Reserving.{place_inside, reserve-missing, reserve-there}
+-- A file that a question refuses has that answer, and one that passes is short enough for its entries to be asked about.
+use Rattle.payout_reserve.proofs.Asking.{short, file-passed, file-refused}
 use Rattle.payout_reserve.proofs.payout_reserve.Goals as goal
 
-pub reserve_at-requires-clause-inside : goal.reserve_at-requires-clause-inside
-reserve_at-requires-clause-inside c = search place_inside
+pub entry_reserve-requires : goal.entry_reserve-requires
+entry_reserve-requires c = search short
 
-pub returns-in-Nowhere : goal.returns-in-Nowhere
-returns-in-Nowhere c = search reserve-missing
+pub returns-in-Refused : goal.returns-in-Refused
+returns-in-Refused c = search file-refused
 
-pub returns-in-At : goal.returns-in-At
-returns-in-At c = search reserve-there
+pub returns-in-Passes : goal.returns-in-Passes
+returns-in-Passes c = search file-passed

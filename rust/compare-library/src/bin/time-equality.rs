@@ -55,7 +55,7 @@ fn measure(name: &str, a: &[u8], b: &[u8]) {
             .find(|e| e.span().start == file.len() - b.len())
             .unwrap(),
     );
-    assert_eq!(zevdrak::expr_eq(a, b), oracle::equal(&x, &y));
+    assert_eq!(zevdrak::compare::expr_eq(a, b), oracle::equal(&x, &y));
     let nanoseconds = |work: &dyn Fn() -> bool| {
         let start = Instant::now();
         for _ in 0..ROUNDS {
@@ -63,7 +63,7 @@ fn measure(name: &str, a: &[u8], b: &[u8]) {
         }
         start.elapsed().as_nanos() as f64 / f64::from(ROUNDS) / a.len() as f64
     };
-    let here = nanoseconds(&|| zevdrak::expr_eq(black_box(a), black_box(b)));
+    let here = nanoseconds(&|| zevdrak::compare::expr_eq(black_box(a), black_box(b)));
     let there = nanoseconds(&|| oracle::equal(black_box(&x), black_box(&y)));
     println!(
         "{name:32} {:6} bytes  {here:6.2}  {there:6.2}  {:5.2}",

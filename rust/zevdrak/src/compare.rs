@@ -1,17 +1,19 @@
 // SPDX-License-Identifier: Apache-2.0 OR MIT
-//! The functions under the verdict, for those who compare them one by one.
+//! The functions under the verdict, for comparisons with the original one by
+//! one: a user of the checker needs none of them. The header is
+//! include/zevdrak_compare.h.
+//!
+//! [`reserve_bounding_payout`] asks the questions about the file and the entry
+//! first, and took at most 148 KB of stack. The others ask none, since they are
+//! compared on parts of files too, and go into what they are given as deep as it
+//! is nested: a level takes 48 bytes in [`expr_eq`] and [`bounded_by_backing`], 64
+//! in the three about tokens. So bytes that are nested thousands deep overflow a
+//! small stack, and that ends the process. On a file that [`crate::check_file`]
+//! passes, where expressions are at most 32 deep, none of them took more than 84
+//! KB; a stack of 2 MB, which a thread has if nothing else is said, is enough for
+//! any bytes. That is measured, and no proof bounds it.
 
-use crate::{c, Refusal};
-
-/// Questions 1 to 8.
-pub fn check_file(file: &[u8]) -> Result<(), Refusal> {
-    let mut place = 0;
-    // The function reads the slice, writes the place, and keeps neither.
-    match unsafe { c::zevdrak_check_file(file.as_ptr(), file.len(), &mut place) } {
-        0 => Ok(()),
-        number => Err(Refusal { number, place }),
-    }
-}
+use crate::{c, refusal, Refusal};
 
 /// Whether the expressions at the fronts of two parts of a file are equal.
 pub fn expr_eq(a: &[u8], b: &[u8]) -> bool {
@@ -74,13 +76,31 @@ pub fn is_reserve_token(file: &[u8], field: &[u8], token: &[u8]) -> bool {
 }
 
 /// The state field that covers a payout of an entry by itself, whatever else
-/// backs it and whether or not another payout uses it: its index among them. All
-/// are counted from 0.
-pub fn reserve_bounding_payout(file: &[u8], entry: usize, payout: usize) -> Option<usize> {
-    let number =
-        unsafe { c::zevdrak_reserve_bounding_payout(file.as_ptr(), file.len(), entry, payout) };
-    (number != NO_RESERVE).then_some(number)
+/// backs the payout and whether or not another one uses the field: its index
+/// among them. All are counted from 0. None does where there is no such payout;
+/// a file that questions 1 to 8 refuse, or an entry that question 9 does, is
+/// refused as by the verdict.
+pub fn reserve_bounding_payout(
+    file: &[u8],
+    entry: usize,
+    payout: usize,
+) -> Result<Option<usize>, Refusal> {
+    let (mut first, mut second) = (0, 0);
+    // The function reads the file, writes the two numbers, and keeps none of
+    // them.
+    let answer = unsafe {
+        c::zevdrak_reserve_bounding_payout(
+            file.as_ptr(),
+            file.len(),
+            entry,
+            payout,
+            &mut first,
+            &mut second,
+        )
+    };
+    match answer {
+        0 => Ok(Some(first)),
+        1 => Ok(None),
+        _ => Err(refusal(first, second)),
+    }
 }
-
-/// What is answered where there is none.
-const NO_RESERVE: usize = 65_535;

@@ -2,7 +2,7 @@
 use Rattle.std.proofs.Common.{rules}
 use Rattle.reserves.proofs.Remembering.{facts-none}
 use Rattle.export.proofs.Asked.{too_long, told_of}
-use Rattle.export.proofs.zevdrak_is_reserve_token.Goals as goal
+use Rattle.export.proofs.compare.zevdrak_is_reserve_token.Goals as goal
 
 pub returns-then-file-gt32768 : goal.returns-then-file-gt32768
 returns-then-file-gt32768 c = search too_long
