@@ -10,7 +10,7 @@ use Rattle.matching.specs.Matching.Cover.{equal_debit, equal_parameter, bounding
 use Rattle.matching.specs.Matching.Reason.{conflict_at_equal, conflict_at_bounding, no_reserve, reserve_used}
 use Rattle.claim.specs.Verdict.{rejected, accepted, written, sheet, kind, index}
 use Rattle.claim.proofs.Samples.{Row, about, found, stated, left, reserve_in, entry, one, state, asset, plain, guard, statement, caller}
-use Rattle.claim.proofs.Samples.{in_asset, holds, n, amount, half, less_one, member, debit, send, double, raising, drawing, k3, k11, k12}
+use Rattle.claim.proofs.Samples.{in_asset, holds, n, amount, half, less_one, member, debit, send, double, raising, drawing, k3, k11, k12, again}
 
 -- an entry that funds the map m in the token t
 abbrev funding : String → List ℕ → List ℕ
@@ -91,10 +91,6 @@ sheets = refl
 two-covers : written (accepted (bounding_parameter 3 ∷ reserve 258 ∷ [])) (replicate 8 7) ≡ 4 ∷ 0 ∷ 3 ∷ 5 ∷ 1 ∷ 2 ∷ 7 ∷ 7 ∷ []
 unfolding written sheet kind index
 two-covers = refl
-
--- K11 and its payout again, inside Checked, with a state field before r
-abbrev again : List ℕ
-again = state "q" [] ++ k11 ++ entry (asset "b" ++ drawing ++ send (write Checked double))
 
 -- as K11, with b.amount itself: the parameter backs the payout, and r covers it all the same
 abbrev backed : List ℕ

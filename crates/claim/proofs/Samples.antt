@@ -5,7 +5,7 @@ use mathlib.Core.Option.{Option}
 use Prim.Native.String.{String}
 use Rattle.laws.specs.Lists.{any, all, filter, find, remove_first, position, numbered}
 use Rattle.laws.specs.Texts.{same_bytes, known}
-use Rattle.tags.specs.Tag.{State, Entry, Parameter, Guard, AddTo, SubtractFrom, ExpressionStatement, Caller, InAsset, Member, Call, Eq, Ge, Sub, Mul, Div}
+use Rattle.tags.specs.Tag.{State, Entry, Parameter, Guard, AddTo, SubtractFrom, ExpressionStatement, Caller, InAsset, Member, Call, Checked, Eq, Ge, Sub, Mul, Div}
 use Rattle.tags.specs.Tag.{is_item, is_clause, is_statement, is_assign, is_expression, is_text, is_wrapper, composite}
 use Rattle.fields.specs.Field.{fields, fields_to, nth, row, fields_from, size, sizes, placed, placed_from}
 use Rattle.fields.proofs.Writing.{write, name, type_name, integer, identifier}
@@ -176,3 +176,7 @@ k11 = state "r" (integer "0") ++ raising (guard (holds "T")) ++ entry (asset "b"
 -- K12: the same with that guard written twice
 abbrev pub k12 : List ℕ
 k12 = state "r" (integer "0") ++ raising (guard (holds "T") ++ guard (holds "T")) ++ entry (asset "b" ++ drawing)
+
+-- K11 and its payout again, inside Checked, with a state field before r
+abbrev pub again : List ℕ
+again = state "q" [] ++ k11 ++ entry (asset "b" ++ drawing ++ send (write Checked double))

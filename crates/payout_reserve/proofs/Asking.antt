@@ -8,7 +8,7 @@ use Rattle.questions.specs.Answers.{asked}
 use Rattle.questions.specs.declared.check.Answer.{Answer}
 use Rattle.questions.specs.declared.check.Answer.TheVariants as question
 use Rattle.entries.specs.Entered.{entry_of}
-use Rattle.reserves.specs.Covers.{reserve_of}
+use Rattle.reserves.specs.Covers.{index_of, index_in}
 use Rattle.reserves.specs.declared.covering.Reserve.{Reserve}
 use Rattle.reserves.specs.declared.covering.Reserve.TheVariants.{Covers, Nothing}
 use Rattle.claim.specs.Reserve.{payout_reserve}
@@ -24,12 +24,12 @@ use Rattle.payout_reserve.specs.declared.ReserveAnswer.{ReserveAnswer as CodedAn
 use Rattle.payout_reserve.specs.declared.ReserveAnswer.TheVariants.{Refused, Covered, Uncovered}
 
 -- the number of the state field that was found
-told : Reserve → ReserveAnswer
-told (Covers index) = covered index
-told Nothing = uncovered
+told : Option ℕ → ReserveAnswer
+told (some index) = covered index
+told none = uncovered
 
-told-found : (model : Fields) (o : Option (List ℕ)) → told (reserve_of model o) ≡ covered_by model o
-unfolding told reserve_of covered_by
+told-found : (model : Fields) (o : Option (List ℕ)) → told (index_in model o) ≡ covered_by model o
+unfolding told index_in covered_by
 told-found model none = refl
 told-found model (some r) = refl
 
@@ -43,21 +43,21 @@ module _ (file : List ℕ) (n k : ℕ) (s : Place) (e : Found file n s) where
   unfolding entry_reserve
   entry-nowhere f = cc (le-ltb n (length (entries (fields file))) (entry-missing file n s e f))
 
-  module _ (place : ℕ) (f : s ≡ At place) (r : Reserve) (g : r ≡ reserve_of (fields file) (payout_reserve (fields file) (entry_of file place) k)) where
+  module _ (place : ℕ) (f : s ≡ At place) (r : Reserve) (g : index_of r ≡ index_in (fields file) (payout_reserve (fields file) (entry_of file place) k)) where
     past : entry_reserve (fields file) n k ≡ covered_by (fields file) (payout_reserve (fields file) (entry_at (fields file) n).this k)
     unfolding entry_reserve
     past = cc (lt-ltb n (length (entries (fields file))) (entry-counted file n s e place f))
 
-    answered : told r ≡ entry_reserve (fields file) n k
+    answered : told (index_of r) ≡ entry_reserve (fields file) n k
     answered = rw (past, entry-there file n s e place f, g) (told-found _ _)
 
     pub entry-covered : (i : ℕ) → r ≡ Covers i → answer_of (Covered i) ≡ entry_reserve (fields file) n k
     unfolding told
-    entry-covered i h = ap told (sym h) ∙ answered
+    entry-covered i h = ap (λ x. told (index_of x)) (sym h) ∙ answered
 
     pub entry-uncovered : r ≡ Nothing → answer_of Uncovered ≡ entry_reserve (fields file) n k
     unfolding told
-    entry-uncovered h = ap told (sym h) ∙ answered
+    entry-uncovered h = ap (λ x. told (index_of x)) (sym h) ∙ answered
 
 -- Questions 1 to 8
 

@@ -1,10 +1,10 @@
 -- The answers computed: each question's "no" with its place, each boundary on both sides, covered or not.
 use Rattle.std.proofs.Common.{ℕ, ◌≡◌, refl, List, [], ◌∷◌, ◌++◌, map, replicate}
-use Rattle.tags.specs.Tag.{Entry, String, Checked}
+use Rattle.tags.specs.Tag.{Entry, String}
 use Rattle.fields.proofs.Writing.{write, integer, identifier, times, nots}
 use Rattle.reserves.specs.Candidates.{state_index}
 use Rattle.claim.specs.Reserve.{payout_reserve}
-use Rattle.claim.proofs.Samples.{found, entry, state, asset, guard, in_asset, holds, double, send, raising, drawing}
+use Rattle.claim.proofs.Samples.{found, entry, state, asset, guard, in_asset, send, drawing, k11, k12, again}
 use Rattle.payout_reserve.specs.Answer.{ReserveAnswer, covered_by, entry_reserve, file_reserve}
 use Rattle.payout_reserve.specs.Answer.ReserveAnswer.{refused, covered, uncovered}
 
@@ -21,21 +21,6 @@ about f n k a = record { file = f; entry_number = n; payout = k; expected = a }
 -- of the first payout of the first entry
 abbrev first : List ℕ → ReserveAnswer → Example
 first f a = about f 0 0 a
-
--- the state field r, an entry that raises it under these guards, and one that draws on it
-abbrev pool : List ℕ → List ℕ
-pool guards = state "r" (integer "0") ++ raising guards ++ entry (asset "b" ++ drawing)
-
--- as K11 and K12: the reserve holds T, or no token
-abbrev k11 : List ℕ
-k11 = pool (guard (holds "T"))
-
-abbrev k12 : List ℕ
-k12 = pool (guard (holds "T") ++ guard (holds "T"))
-
--- K11 with a state field before r, and its payout again
-abbrev again : List ℕ
-again = state "q" [] ++ k11 ++ entry (asset "b" ++ drawing ++ send (write Checked double))
 
 examples : List Example
 examples =

@@ -2,7 +2,7 @@
 -- table, which has room for all.
 use Rattle.std.proofs.Common.{ℕ, ◌*◌, ◌≤◌, ◌<◌, ◌≡◌, refl, ap, ◌∙◌, false, ◌&&◌, List, [], arith, length, get_or, set, replicate, take}
 use mathlib.Core.Bool.{and-false}
-use mathlib.Core.Option.{none}
+use mathlib.Core.Option.{Option, none}
 use lib.ListN.{length-replicate, get_or-eq_default}
 use Rattle.laws.specs.Texts.{known, same_bytes}
 use Rattle.laws.specs.Lists.{any}
@@ -23,9 +23,7 @@ use Rattle.entries.proofs.Called.{where-counted, where-read, payouts-where}
 use Rattle.entries.proofs.Reading.{calls-fit, calls-part, calls-all, places-few, table-long, field-there}
 use Rattle.reserves.specs.Reserves.{reserve_covers, reserve_bounding_payout}
 use Rattle.reserves.specs.Candidates.{Candidates, candidate_numbers}
-use Rattle.reserves.specs.Covers.{reserve_of}
-use Rattle.reserves.specs.declared.covering.Reserve.{Reserve}
-use Rattle.reserves.specs.declared.covering.Reserve.TheVariants.{Nothing}
+use Rattle.reserves.specs.Covers.{index_in}
 use Rattle.claim.specs.Claim.{payout_at}
 use Rattle.claim.specs.Reserve.{payout_reserve}
 use Rattle.verdict.proofs.Preparing.{numbers_fit, numbers-part, numbers-exact}
@@ -46,8 +44,8 @@ none_found : (model : Fields) (entry amount : Field) → reserve_bounding_payout
 unfolding reserve_bounding_payout
 none_found model entry amount = find_none (reserve_covers model entry amount []) (unasked model entry amount) (guarded_by entry amount)
 
-unpaid : (model : Fields) (entry : Field) (k : ℕ) → payout_at model entry k ≡ nothing → Nothing ≡ reserve_of model (payout_reserve model entry k)
-unfolding payout_reserve reserve_of
+unpaid : (model : Fields) (entry : Field) (k : ℕ) → payout_at model entry k ≡ nothing → none ≡ index_in model (payout_reserve model entry k)
+unfolding payout_reserve index_in
 unpaid model entry k e = rw (e, no-token, none_found model entry _)
 
 -- The payout alone in a table
@@ -80,8 +78,8 @@ module _ (file : List ℕ) (place : ℕ) (small : length file ≤ 32768) where
     pub alone-listed : Candidates file place paid 1 (take r last) (length (take r last))
     alone-listed = numbers-exact file place paid 1 one (replicate most_fields 0) last r p room
 
-pub alone-asked : (file payouts : List ℕ) (place k x : ℕ) → x ≡ get_or payouts k 0 → (r : Reserve) →
-    r ≡ reserve_of (fields file) (reserve_bounding_payout (fields file) (entry_of file place) (asked_amount file (set (replicate 65 0) 0 x) 0) (asked_token file (set (replicate 65 0) 0 x) 0)) →
+pub alone-asked : (file payouts : List ℕ) (place k x : ℕ) → x ≡ get_or payouts k 0 → (r : Option ℕ) →
+    r ≡ index_in (fields file) (reserve_bounding_payout (fields file) (entry_of file place) (asked_amount file (set (replicate 65 0) 0 x) 0) (asked_token file (set (replicate 65 0) 0 x) 0)) →
     r ≡ asked_reserve file place payouts k
 unfolding asked_reserve asked_token asked_amount
 alone-asked file payouts place k x e r f = rw (← e) f
@@ -99,7 +97,7 @@ module _ (file : List ℕ) (place : ℕ) (calls : List ℕ) (c : CallsOf file pl
   counted : m ≡ length (payouts entry)
   counted = where-counted file place calls c is_payout payout-call (replicate most_fields 0) table m p ∙ ap length (payouts-where (placed_at file place))
 
-  pub payout-missing : (k : ℕ) → m ≤ k → Nothing ≡ reserve_of model (payout_reserve model entry k)
+  pub payout-missing : (k : ℕ) → m ≤ k → none ≡ index_in model (payout_reserve model entry k)
   payout-missing k h = unpaid model entry k (get_or-eq_default (payouts entry) nothing (omega (arith, h, counted)))
 
   few : m ≤ length (replicate {A = ℕ} most_fields 0)
@@ -111,6 +109,6 @@ module _ (file : List ℕ) (place : ℕ) (calls : List ℕ) (c : CallsOf file pl
   pub payout-among : (k : ℕ) → k < m → k < length table
   payout-among k h = omega (arith, h, table-long file table m (payouts entry) read counted)
 
-  pub payout-found : (k : ℕ) → k < m → (r : Reserve) → r ≡ asked_reserve file place table k → r ≡ reserve_of model (payout_reserve model entry k)
+  pub payout-found : (k : ℕ) → k < m → (r : Option ℕ) → r ≡ asked_reserve file place table k → r ≡ index_in model (payout_reserve model entry k)
   unfolding payout_reserve asked_reserve asked_token asked_amount paid_at
   payout-found k h r j = j ∙ rw (field-there file table m (payouts entry) read counted k h)

@@ -5,7 +5,7 @@
 
 ghost use Rattle.std.specs.Prelude.{◌≡◌, ◌≤◌, ◌<◌, length};
 ghost use Rattle.fields.specs.Field.{fields};
-ghost use Rattle.reserves.specs.Covers.{reserve_of};
+ghost use Rattle.reserves.specs.Covers.{index_of, index_in};
 ghost use Rattle.entries.specs.Entered.{entry_of, CallsOf};
 ghost use Rattle.claim.specs.Reserve.{payout_reserve};
 ghost use Rattle.payout_reserve.specs.Answer.{entry_reserve, file_reserve, answer_of};
@@ -26,7 +26,7 @@ use walking::walk::{MOST_FIELDS, list_body};
 fn reserve_for(file: &[u8], place: usize, payouts: &[u16], k: usize) -> Reserve
     requires short { length file.now ≤ 32768 }
     requires among { k < length payouts.now }
-    ensures { result ≡ asked_reserve file.now place payouts.now k }
+    ensures { index_of result ≡ asked_reserve file.now place payouts.now k }
 {
     let mut paid = [0u16; 65];
     paid[0] = payouts[k];
@@ -55,7 +55,7 @@ fn reserve_for(file: &[u8], place: usize, payouts: &[u16], k: usize) -> Reserve
 // That of the k-th payout among the calls of the entry at a place of the file.
 fn reserve_among(file: &[u8], place: usize, calls: &[u16], k: usize) -> Reserve
     requires { CallsOf file.now place calls.now }
-    ensures { result ≡ reserve_of (fields file.now) (payout_reserve (fields file.now) (entry_of file.now place) k) }
+    ensures { index_of result ≡ index_in (fields file.now) (payout_reserve (fields file.now) (entry_of file.now place) k) }
 {
     let mut payouts = [0u16; MOST_FIELDS];
     let count = list_payouts(file, calls, &mut payouts);
@@ -70,7 +70,7 @@ fn reserve_among(file: &[u8], place: usize, calls: &[u16], k: usize) -> Reserve
 fn reserve_at(file: &[u8], place: usize, k: usize) -> Reserve
     requires short { length file.now ≤ 32768 }
     requires inside { place ≤ length file.now }
-    ensures { result ≡ reserve_of (fields file.now) (payout_reserve (fields file.now) (entry_of file.now place) k) }
+    ensures { index_of result ≡ index_in (fields file.now) (payout_reserve (fields file.now) (entry_of file.now place) k) }
 {
     let mut calls = [0u16; MOST_FIELDS];
     let count = list_body(file, place, CALL, &mut calls);
