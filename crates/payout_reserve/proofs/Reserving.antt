@@ -137,6 +137,3 @@ module _ (file : List ℕ) (n k : ℕ) (s : Place) (e : Found file n s) where
       r ≡ reserve_of (fields file) (payout_reserve (fields file) (entry_of file place) k) →
       r ≡ reserve_of (fields file) (payout_reserve (fields file) (entry_at (fields file) n).this k)
   reserve-there place f r g = rw (entry-there file n s e place f) g
-
-  pub place_inside : (place : ℕ) → s ≡ At place → place ≤ length file
-  place_inside place f = e.inside place f

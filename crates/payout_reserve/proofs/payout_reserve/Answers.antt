@@ -1,9 +1,10 @@
 -- The entry is not there, or stands at its place.
-use Rattle.payout_reserve.proofs.Reserving.{place_inside, reserve-missing, reserve-there}
+use Rattle.verdict.proofs.Asking.{entry-inside}
+use Rattle.payout_reserve.proofs.Reserving.{reserve-missing, reserve-there}
 use Rattle.payout_reserve.proofs.payout_reserve.Goals as goal
 
 pub reserve_at-requires-clause-inside : goal.reserve_at-requires-clause-inside
-reserve_at-requires-clause-inside c = search place_inside
+reserve_at-requires-clause-inside c = search entry-inside
 
 pub returns-in-Nowhere : goal.returns-in-Nowhere
 returns-in-Nowhere c = search reserve-missing
