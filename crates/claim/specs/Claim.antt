@@ -14,9 +14,9 @@ use Rattle.equality.specs.Equality.{expr_eq}
 use Rattle.tokens.specs.Tokens.{differ}
 use Rattle.guards.specs.Payouts.{payout_token, payout_amount}
 use Rattle.reserves.specs.Reserves.{reserve_covers}
-use Rattle.matching.specs.Matching.{Cover, Source, Backing, debit_backings, parameter_backings, equals, bounds}
+use Rattle.matching.specs.Matching.{Source, Backing, debit_backings, parameter_backings, equals, bounds}
 use Rattle.matching.specs.Matching.Source.{debit, parameter}
-use Rattle.claim.specs.Verdict.{Verdict, accepted, matching, entry_at, ask_entry, verdict, written}
+use Rattle.claim.specs.Verdict.{matching, entry_at, ask_entry, verdict, outcome, first_of, second_of, written}
 
 -- "the covers written": the kind of payout i's cover, the first of its three bytes
 abbrev pub kind_at : List ℕ → ℕ → ℕ
@@ -51,9 +51,9 @@ backs_equal p b = equals p b && not_known_to_differ p b
 unfoldable pub backs_bounding : Field → Backing → Bool
 backs_bounding p b = bounds p b && not_known_to_differ p b
 
--- "accepted"
-unfoldable pub Accepted : Verdict → Type 0
-Accepted answer = (cs : List Cover) × (answer ≡ accepted cs)
+-- "accepted": the answer is 0
+abbrev pub Accepted : (answer : ℕ) → Type 0
+Accepted answer = answer ≡ 0
 
 -- E, the entry of a model
 module _ (model : Fields) (entry : Field) where
@@ -104,10 +104,10 @@ module _ (model : Fields) (entry : Field) where
   NamesJth covers i =
       (b : Backing) × (jth i ≡ some b) × (kind_at covers i ≡ equal_kind b.source) × (index_at covers i ≡ b.index)
 
-  -- what demand 3 says of an answer about E, and of the covers as they were lent and as they are left
-  pub record Backed (lent : List ℕ) (answer : Verdict) (left : List ℕ) : Type 0 where
+  -- what demand 3 says of an answer about E and its two numbers, and of the covers as they were lent and as they are left
+  pub record Backed (lent : List ℕ) (answer first second : ℕ) (left : List ℕ) : Type 0 where
     -- "If E is accepted, the answer is the number of its payouts,"
-    pub counted : (cs : List Cover) → answer ≡ accepted cs → length cs ≡ length (payouts entry)
+    pub counted : Accepted answer → first ≡ length (payouts entry)
     -- "and the covers written name for each payout, as the kind says," what backs it
     pub sound : Accepted answer → EachPayout (λ i. backs (payout_at i) (kind_at left i) (index_at left i) ≡ true)
     -- "what no other payout's cover names"
@@ -119,18 +119,22 @@ module _ (model : Fields) (entry : Field) where
     pub exact : EachEqualsSome → (Accepted answer ↔ EachPayout HasJth)
     -- "and those are then the covers written, with kind 1 or 2."
     pub exact_covers : EachEqualsSome → Accepted answer → EachPayout (NamesJth left)
-    -- "In every case verdict, failing payout" (both in the answer)
-    pub matched : answer ≡ matching model entry
+    -- "In every case verdict," which is the answer,
+    pub given_verdict : answer ≡ outcome (matching model entry)
+    -- "failing payout", the first number of a rejection, with the second, its reason,
+    pub given_first : first ≡ first_of (matching model entry)
+    pub given_second : second ≡ second_of entry (matching model entry)
     -- "and covers are the ones that 01's Matching gives."
-    pub covers : left ≡ written answer lent
+    pub given_covers : left ≡ written (matching model entry) lent
 
 -- entry n of a file, "past every check": questions 1 to 8 about the file, 9 to 12 about the entry and the covers lent
-unfoldable pub Demand3 : (file : List ℕ) (n : ℕ) (lent : List ℕ) (answer : Verdict) (left : List ℕ) → Type 0
-Demand3 file n lent answer left =
+unfoldable pub Demand3 : (file : List ℕ) (n : ℕ) (lent : List ℕ) (answer first second : ℕ) (left : List ℕ) → Type 0
+Demand3 file n lent answer first second left =
     ask_file file ≡ passes → ask_entry (fields file) n (length lent) ≡ passes →
-    Backed (fields file) (entry_at (fields file) n).this lent answer left
+    Backed (fields file) (entry_at (fields file) n).this lent answer first second left
 
 -- "Whatever the lent covers held, let E be any entry of any model file"
 unfoldable pub Claim : Type 0
 Claim = (file lent : List ℕ) (n : ℕ) →
-    Demand3 file n lent (verdict file n (length lent)) (written (verdict file n (length lent)) lent)
+    let v = verdict file n (length lent) in
+    Demand3 file n lent (outcome v) (first_of v) (second_of (entry_at (fields file) n).this v) (written v lent)

@@ -7,11 +7,10 @@ use Rattle.questions.specs.Questions.{Asked, passes, fails, ask_file}
 use Rattle.questions.specs.Answers.{asked}
 use Rattle.questions.specs.declared.check.Answer.{Answer}
 use Rattle.questions.specs.declared.check.Answer.TheVariants.{Passes, Refused}
-use Rattle.claim.specs.Verdict.{refused, verdict, written}
+use Rattle.claim.specs.Verdict.{refused, verdict, outcome, first_of, second_of, written}
 use Rattle.claim.proofs.Fitting.{short-file}
 use Rattle.verdict.proofs.Asking.{ninth}
 use Rattle.output.specs.Output.{Written}
-use Rattle.contract.specs.Answer.{outcome, first_of, second_of}
 use Rattle.contract.specs.Records.{recorded, verdict_on, record_on, below, at_least_one, records, largest, outcome_of_all, covers_enough}
 use Rattle.contract.specs.Coded.{head_of}
 use Rattle.contract.specs.Each.{record_count, each_record, largest_of_each, EachRecorded, AllRecorded, RefusalRecorded}

@@ -8,10 +8,9 @@ use Rattle.model.specs.Model.{entries}
 use Rattle.questions.specs.Questions.{Asked, passes, fails, ask_file}
 use Rattle.matching.specs.Matching.{Reason}
 use Rattle.matching.specs.Matching.Reason.{split_without_amount, conflict_at_equal, amount_taken, conflict_at_bounding, no_reserve, reserve_used}
-use Rattle.claim.specs.Verdict.{Verdict, refused, rejected, accepted, entry_at, verdict, entry_verdict, written, reason}
+use Rattle.claim.specs.Verdict.{Verdict, refused, rejected, accepted, entry_at, verdict, entry_verdict, first_of, second_of, written, reason}
 use Rattle.verdict.proofs.Asking.{ninth}
 use Rattle.verdict.proofs.Running.{sheet-long}
-use Rattle.contract.specs.Answer.{first_of, second_of}
 use Rattle.contract.specs.Records.{two_bytes, recorded, verdict_on, record_on, below, at_least_one, records, covers_enough}
 use Rattle.contract.specs.Each.{each_record, records_enough}
 use Rattle.contract.proofs.Below.{each-short}

@@ -2,11 +2,11 @@ pub mod Below
 pub mod Passed
 pub mod Fine
 pub mod Said
-pub mod Told
 pub mod Writing
 pub mod Recording
 pub mod Each
 pub mod Enough
 pub mod Together
+pub mod Reading
 pub mod EachBacked
 pub mod Examples

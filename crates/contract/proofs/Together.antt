@@ -3,10 +3,9 @@ use Rattle.std.proofs.Common.{ℕ, zero, suc, ◌<◌, ◌≡◌, refl, ap, ◌�
 use Rattle.fields.specs.Field.{fields}
 use Rattle.model.specs.Model.{entries}
 use Rattle.questions.specs.Questions.{Asked, passes, fails, ask_file}
-use Rattle.claim.specs.Verdict.{Verdict, refused, rejected, accepted, verdict}
+use Rattle.claim.specs.Verdict.{refused, verdict, outcome}
 use Rattle.claim.specs.Claim.{Accepted}
 use Rattle.verdict.proofs.Asking.{ninth}
-use Rattle.contract.specs.Answer.{outcome}
 use Rattle.contract.specs.Records.{verdict_on, at_least_one, largest, outcome_of_all, covers_enough}
 use Rattle.contract.proofs.Each.{some-there}
 
@@ -33,21 +32,11 @@ module _ (f : ℕ → ℕ) where
   all-zero zero h = refl
   all-zero (suc n) h = rw (all-zero n (λ i g. h i (omega (arith, g))), h n (omega arith))
 
-accepted-so : (v : Verdict) → outcome v ≡ 0 → Accepted v
-unfolding outcome Accepted
-accepted-so (accepted cs) e = (cs, refl)
-accepted-so (rejected k r) e = absurd (omega (arith, e))
-accepted-so (refused k p) e = absurd (omega (arith, e))
-
-so-accepted : (v : Verdict) → Accepted v → outcome v ≡ 0
-unfolding outcome Accepted
-so-accepted v (cs, e) = ap outcome e
-
 -- the file passes questions 1 to 8 and has entries, and each entry is accepted
 pub record EachAccepted (file : List ℕ) : Type 0 where
   pub passed : ask_file file ≡ passes
   pub some : 0 < length (entries (fields file))
-  pub each : (n : ℕ) → n < length (entries (fields file)) → Accepted (verdict_on file n)
+  pub each : (n : ℕ) → n < length (entries (fields file)) → Accepted (outcome (verdict_on file n))
 
 module _ (file : List ℕ) where
   abbrev count : ℕ
@@ -71,12 +60,12 @@ module _ (file : List ℕ) where
   each_of (fails k p) f e = absurd (omega (arith, e))
   each_of passes f e =
       let z : 0 < count = some_of f e in
-      record { passed = f; some = z; each = λ n h. accepted-so (verdict_on file n) (each-zero what (at_least_one count) e n (rw (some-there count z) h)) }
+      record { passed = f; some = z; each = λ n h. each-zero what (at_least_one count) e n (rw (some-there count z) h) }
 
   pub together : outcome_of_all file ≡ 0 ↔ EachAccepted file
   unfolding outcome_of_all
   together = (
     each_of (ask_file file) refl,
     λ x. let p : ask_file file ≡ passes = x.passed in
-        rw (outcome_of_all, p, some-there count x.some) (all-zero what count (λ n h. so-accepted (verdict_on file n) (x.each n h))),
+        rw (outcome_of_all, p, some-there count x.some) (all-zero what count x.each),
   )

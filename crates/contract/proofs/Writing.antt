@@ -5,17 +5,16 @@ use lib.Seq.{drop-nil, take-append_seam}
 use Rattle.fields.specs.Field.{Field, fields}
 use Rattle.walking.specs.Table.{placed_at}
 use Rattle.entries.specs.Entered.{entry_of}
-use Rattle.claim.specs.Verdict.{Verdict, refused, rejected, accepted, sheet, written, spare}
-use Rattle.verdict.specs.Coded.{coded, placed_verdict}
+use Rattle.claim.specs.Verdict.{Verdict, refused, rejected, accepted, outcome, first_of, sheet, written}
+use Rattle.verdict.specs.Coded.{numbers_of, numbers, placed_verdict}
 use Rattle.verdict.specs.declared.entry.Verdict.{Verdict as CodedVerdict}
+use Rattle.verdict.specs.declared.numbers.Numbers.{Numbers}
 use Rattle.verdict.proofs.Running.{sheet-long}
 use Rattle.output.specs.Output.{Written}
 use Rattle.output.proofs.Buffer.{written_then}
-use Rattle.contract.specs.Answer.{outcome, first_of}
 use Rattle.contract.specs.Records.{two_bytes, recorded, covers_enough}
-use Rattle.contract.specs.Coded.{head_of, record_of, CoversIn, NumbersOf, Numbered, entry_in, verdict_in, Told}
+use Rattle.contract.specs.Coded.{head_of, record_of, CoversIn, entry_in, verdict_in, Told}
 use Rattle.contract.specs.Each.{Appended, OneMore}
-use Rattle.contract.specs.declared.numbers.Numbers.{Numbers}
 use Rattle.contract.specs.declared.records.Recorded.{Recorded}
 
 module _ (t : List ℕ) (n : ℕ) (u : List ℕ) (m : ℕ) (v : List ℕ) (r : ℕ) where
@@ -43,49 +42,50 @@ module _ (x : Numbers) (covers t : List ℕ) (n : ℕ) (u : List ℕ) (m : ℕ) 
   covers-behind h b e w r q = rw (eq-eqb x.outcome 0 h, ← e) (written_then (head_of x) t n u m p b w r q)
 
 -- the numbers and the covers of a verdict make its record
-module _ (entry : Field) (v : Verdict) (x : Numbers) (n : NumbersOf entry v x) (zeros after : List ℕ) (a : after ≡ written v zeros) (same : length after ≡ length zeros) where
+module _ (entry : Field) (v : Verdict) (zeros after : List ℕ) (a : after ≡ written v zeros) (same : length after ≡ length zeros) where
   -- the covers are the first bytes of what is written
-  covers-within : x.outcome ≡ 0 → 3 * x.first ≤ length after
-  unfolding outcome written first_of
-  covers-within h = go v refl
+  covers-within : CoversIn (numbers entry v) after
+  unfolding numbers outcome written first_of
+  covers-within = record { within = go v refl }
     where
-      go : (w : Verdict) → v ≡ w → 3 * x.first ≤ length after
-      go (accepted cs) e =
+      go : (w : Verdict) → v ≡ w → outcome w ≡ 0 → 3 * first_of w ≤ length after
+      go (accepted cs) e h =
           let l : length after ≡ length (sheet cs ++ drop (3 * length cs) zeros) = ap length (a ∙ ap (λ w. written w zeros) e) in
-          omega (arith, rw length-append at l, sheet-long cs, n.one ∙ ap first_of e)
-      go (rejected k q) e = absurd (omega (arith, h, n.what ∙ ap outcome e))
-      go (refused k q) e = absurd (omega (arith, h, n.what ∙ ap outcome e))
+          omega (arith, rw length-append at l, sheet-long cs)
+      go (rejected k q) e h = absurd (omega (arith, h))
+      go (refused k q) e h = absurd (omega (arith, h))
 
-  covers-made : written v [] ≡ cond (eqb x.outcome 0) (take (3 * x.first) after) []
+  covers-made : written v [] ≡ cond (eqb (outcome v) 0) (take (3 * first_of v) after) []
   unfolding outcome written first_of
   covers-made = go v refl
     where
-      go : (w : Verdict) → v ≡ w → written v [] ≡ cond (eqb x.outcome 0) (take (3 * x.first) after) []
+      go : (w : Verdict) → v ≡ w → written w [] ≡ cond (eqb (outcome w) 0) (take (3 * first_of w) after) []
       go (accepted cs) e =
-          let f : 3 * x.first ≡ length (sheet cs) = omega (arith, sheet-long cs, n.one ∙ ap first_of e) in
           let c : after ≡ sheet cs ++ drop (3 * length cs) zeros = a ∙ ap (λ w. written w zeros) e in
-          rw (eq-eqb x.outcome 0 (n.what ∙ ap outcome e), f, c, take-append_seam, e, drop-nil, append-nil)
-      go (rejected k q) e = rw (ne_eqb x.outcome 0 (λ z. omega (arith, z, n.what ∙ ap outcome e)), e)
-      go (refused k q) e = rw (ne_eqb x.outcome 0 (λ z. omega (arith, z, n.what ∙ ap outcome e)), e)
+          rw (← sheet-long cs, c, take-append_seam, drop-nil, append-nil)
+      go (rejected k q) e = refl
+      go (refused k q) e = refl
 
-  record-made : recorded entry v ≡ record_of x after
-  unfolding recorded head_of record_of
-  record-made = rw (← n.what, ← n.one, ← n.other, covers-made)
+  record-made : recorded entry v ≡ record_of (numbers entry v) after
+  unfolding numbers recorded head_of record_of
+  record-made = rw covers-made
 
 -- of the entry at the front of t, which stands at a place
 module _ (file t : List ℕ) (place : ℕ) (e : place ≡ length file - length t) (before after : List ℕ) (l : length before ≡ covers_enough) (same : length after ≡ length before) where
   abbrev here : Verdict
   here = placed_verdict (fields file) (placed_at file place) (length before)
 
-  pub entry-told : (x : CodedVerdict) → x ≡ coded (spare (entry_of file place)) here → after ≡ written here before → (r : Numbers) → Numbered x r → Told file t after r
+  pub entry-told : (x : CodedVerdict) → numbers_of x ≡ numbers (entry_of file place) here → after ≡ written here before →
+      (r : Numbers) → r ≡ numbers_of x → Told file t after r
+  unfolding numbers
   entry-told x f g r d =
-      let n : NumbersOf (entry_in file t) (verdict_in file t) r = rw (e, l) at (d.told (entry_of file place) here f) in
+      let n : r ≡ numbers (entry_in file t) (verdict_in file t) = d ∙ f ∙ rw (e, l) in
       let a : after ≡ written (verdict_in file t) before = g ∙ rw (e, l) in
-      record {
-        what = n.what;
-        within = record { within = covers-within (entry_in file t) (verdict_in file t) r n before after a same };
-        made = sym (record-made (entry_in file t) (verdict_in file t) r n before after a same);
-      }
+      rw n (record {
+        what = refl;
+        within = covers-within (entry_in file t) (verdict_in file t) before after a same;
+        made = sym (record-made (entry_in file t) (verdict_in file t) before after a same);
+      })
 
 -- written behind the earlier ones it is one more
 pub more-here : (file t covers : List ℕ) (r : Numbers) → Told file t covers r → (out u : List ℕ) (earlier m : Recorded) → Appended r covers out u earlier m → OneMore file t out u earlier m

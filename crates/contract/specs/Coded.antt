@@ -1,15 +1,13 @@
--- The numbers of a verdict as the code gives them, and the record that it makes of them.
+-- The record that the code makes of the numbers of a verdict.
 use Rattle.std.specs.Prelude.{ℕ, ◌-◌, ◌*◌, ◌≤◌, ◌≡◌, cond, List, [], ◌∷◌, ◌++◌, eqb, length, take}
 use Rattle.fields.specs.Field.{Field, fields}
 use Rattle.walking.specs.Table.{placed_at}
 use Rattle.reserves.specs.Holding.{Known}
 use Rattle.entries.specs.Entered.{entry_of}
-use Rattle.claim.specs.Verdict as rules
-use Rattle.verdict.specs.Coded.{coded, placed_verdict}
-use Rattle.verdict.specs.declared.entry.Verdict.{Verdict}
+use Rattle.claim.specs.Verdict.{Verdict, outcome}
+use Rattle.verdict.specs.Coded.{placed_verdict}
+use Rattle.verdict.specs.declared.numbers.Numbers.{Numbers}
 use Rattle.contract.specs.Records.{two_bytes, recorded, covers_enough}
-use Rattle.contract.specs.Answer.{outcome, first_of, second_of}
-use Rattle.contract.specs.declared.numbers.Numbers.{Numbers}
 
 -- the numbers as bytes
 unfoldable pub head_of : Numbers → List ℕ
@@ -23,21 +21,11 @@ record_of x covers = head_of x ++ cond (eqb x.outcome 0) (take (3 * x.first) cov
 pub record CoversIn (x : Numbers) (covers : List ℕ) : Type 0 where
   pub within : x.outcome ≡ 0 → 3 * x.first ≤ length covers
 
--- the numbers are those of a verdict of the rules on an entry
-pub record NumbersOf (entry : Field) (v : rules.Verdict) (r : Numbers) : Type 0 where
-  pub what : r.outcome ≡ outcome v
-  pub one : r.first ≡ first_of v
-  pub other : r.second ≡ second_of entry v
-
--- the numbers are those of each verdict that the code's stands for
-pub record Numbered (x : Verdict) (r : Numbers) : Type 0 where
-  pub told : (entry : Field) (v : rules.Verdict) → x ≡ coded (rules.spare entry) v → NumbersOf entry v r
-
 -- the entry at the front of t, the rest of a file, and the verdict on it
 abbrev pub entry_in : (file t : List ℕ) → Field
 entry_in file t = entry_of file (length file - length t)
 
-abbrev pub verdict_in : (file t : List ℕ) → rules.Verdict
+abbrev pub verdict_in : (file t : List ℕ) → Verdict
 verdict_in file t = placed_verdict (fields file) (placed_at file (length file - length t)) covers_enough
 
 -- an entry of a file can be asked about: the table has a number for each three bytes of a file that passes question 1, and what

@@ -5,12 +5,11 @@ use mathlib.Core.List.{List, flat_map}
 use Rattle.fields.specs.Field.{fields, nothing}
 use Rattle.model.specs.Model.{entries}
 use Rattle.questions.specs.Questions.{passes, fails, ask_file}
-use Rattle.claim.specs.Verdict.{refused}
+use Rattle.claim.specs.Verdict.{refused, outcome}
+use Rattle.verdict.specs.declared.numbers.Numbers.{Numbers}
 use Rattle.output.specs.Output.{Written}
-use Rattle.contract.specs.Answer.{outcome}
 use Rattle.contract.specs.Records.{recorded, verdict_on, record_on, below, records, largest, outcome_of_all}
 use Rattle.contract.specs.Coded.{record_of, entry_in, verdict_in}
-use Rattle.contract.specs.declared.numbers.Numbers.{Numbers}
 use Rattle.contract.specs.declared.records.Recorded.{Recorded}
 
 -- bytes for the records of every file: 5 and the covers for each of 64 entries

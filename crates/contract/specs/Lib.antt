@@ -1,5 +1,5 @@
-pub mod Answer
 pub mod Records
+pub mod Reading
 pub mod Backed
 pub mod Coded
 pub mod Each

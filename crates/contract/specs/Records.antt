@@ -4,8 +4,7 @@ use mathlib.Core.List.{List, [], ◌∷◌, ◌++◌, flat_map}
 use Rattle.fields.specs.Field.{Field, fields, nothing}
 use Rattle.model.specs.Model.{entries}
 use Rattle.questions.specs.Questions.{passes, fails, ask_file}
-use Rattle.claim.specs.Verdict.{Verdict, refused, entry_at, verdict, written}
-use Rattle.contract.specs.Answer.{outcome, first_of, second_of}
+use Rattle.claim.specs.Verdict.{Verdict, refused, entry_at, verdict, outcome, first_of, second_of, written}
 
 -- a number in two bytes, most significant first; one below 65,536 is kept whole
 unfoldable pub two_bytes : ℕ → List ℕ

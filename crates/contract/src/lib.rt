@@ -1,5 +1,4 @@
 // The verdicts on all entries of a file at once.
 #![tactic(auto)]
 
-pub mod numbers;
 pub mod records;

@@ -7,7 +7,6 @@ ghost use Rattle.contract.specs.Records.{two_bytes, covers_enough};
 ghost use Rattle.contract.specs.Coded.{head_of, record_of, CoversIn, Askable, Told};
 ghost use Rattle.contract.specs.Each.{EachRecorded, AllRecorded, RefusalRecorded, Extensible, Appended, OneMore};
 
-use super::numbers::{Numbers, numbers_of};
 use fields::bytes::keep;
 use fields::front::{after_front, first_from, is_whole};
 use fundings::facts::nothing_known;
@@ -16,6 +15,7 @@ use questions::check::Answer;
 use questions::file::check_file;
 use tags::ENTRY;
 use verdict::entry::{SHORT_FIELDS, SHORT_FILE, less, placed_verdict};
+use verdict::numbers::{Numbers, numbers_of};
 use walking::walk::MOST_FIELDS;
 
 // 64 payouts, the most that question 10 allows, have three bytes of covers each.

@@ -1,27 +1,24 @@
 -- A record is read back as it was written, since its numbers fit in their two bytes; so the text of a file's records is its listing.
-use Rattle.std.proofs.Common.{ℕ, zero, suc, ◌+◌, ◌*◌, ◌≤◌, ◌<◌, ◌/◌, ◌%◌, ◌≡◌, refl, sym, ap, ◌∙◌, List, [], ◌∷◌, ◌++◌, append_assoc, append-nil, arith, zero-add, length, drop, replicate, drop_at}
+use Rattle.std.proofs.Common.{ℕ, zero, suc, ◌+◌, ◌*◌, ◌≤◌, ◌<◌, ◌≡◌, refl, sym, ap, ◌∙◌, List, [], ◌∷◌, ◌++◌, arith}
+use Rattle.std.proofs.Common.{append_assoc, append-nil, zero-add, length, drop, replicate, drop_at}
 use mathlib.Core.List.{flat_map}
 use lib.ListN.{length-replicate}
-use lib.Seq.{sets-eq, drop-nil}
+use lib.Seq.{sets-eq}
 use Rattle.laws.specs.Lists.{numbered}
 use Rattle.fields.specs.Field.{Field, fields, nothing}
 use Rattle.model.specs.Model.{entries}
 use Rattle.questions.specs.Questions.{Asked, passes, fails, ask_file}
-use Rattle.claim.specs.Verdict.{Verdict, refused, rejected, accepted, entry_at, sheet, written, spare}
-use Rattle.verdict.proofs.Running.{sheet-long}
+use Rattle.claim.specs.Verdict.{Verdict, refused, rejected, accepted, entry_at, outcome, first_of, second_of, sheet, written, spare}
 use Rattle.output.specs.Output.{Written}
-use Rattle.contract.specs.Answer.{outcome, first_of, second_of}
 use Rattle.contract.specs.Records.{two_bytes, recorded, verdict_on, record_on, below}
 use Rattle.contract.specs.Each.{record_count, each_record, EachRecorded, records_enough}
+use Rattle.contract.specs.Reading.{size_of}
 use Rattle.contract.specs.declared.records.Recorded.{Recorded}
 use Rattle.contract.proofs.Enough.{Fitting, on-entry, entry-fits, file-fits, each-enough}
+use Rattle.contract.proofs.Reading.{first-read, second-read, size-read}
 use Rattle.listing.specs.Listing.{refusal_line, accepted_line, rejected_line, cover_line, entry_lines, listing}
-use Rattle.listing.specs.Coded.{front_number, lines_of, size_of, text_of}
+use Rattle.listing.specs.Coded.{lines_of, text_of}
 use Rattle.listing.proofs.Covers.{all-covers}
-
--- a number below 65,536 is read back from its two bytes
-two-read : (k : ℕ) → k < 65536 → k / 256 % 256 * 256 + k % 256 ≡ k
-two-read k h = omega (arith, h)
 
 -- the lines of a verdict on an entry
 abbrev verdict_lines : ℕ → Field → Verdict → List ℕ
@@ -37,20 +34,19 @@ module _ (n : ℕ) (entry : Field) (behind : List ℕ) where
   front v = recorded entry v ++ behind
 
   lines-back : (v : Verdict) → Fitting entry v → lines_of n (front v) ≡ verdict_lines n entry v
-  unfolding lines_of front_number recorded two_bytes outcome first_of second_of written
-  lines-back (refused k p) f = rw (two-read k f.first_fits, two-read p f.second_fits)
-  lines-back (rejected k r) f = rw (two-read k f.first_fits)
+  unfolding lines_of recorded two_bytes outcome first_of second_of written
+  lines-back (refused k p) f = rw (first-read entry behind (refused k p) f, second-read entry behind (refused k p) f)
+  lines-back (rejected k r) f = rw (first-read entry behind (rejected k r) f)
   lines-back (accepted cs) f =
-      rw (two-read (length cs) f.first_fits, two-read (spare entry) f.second_fits, append_assoc (sheet cs) (drop (3 * length cs) []) behind, all-covers cs (drop (3 * length cs) [] ++ behind))
-
-  size_back : (v : Verdict) → Fitting entry v → size_of (front v) ≡ length (recorded entry v)
-  unfolding size_of front_number recorded two_bytes outcome first_of written
-  size_back (refused k p) f = refl
-  size_back (rejected k r) f = refl
-  size_back (accepted cs) f = rw (two-read (length cs) f.first_fits, drop-nil (3 * length cs), append-nil (sheet cs), sheet-long cs) (omega arith)
+      rw (
+        first-read entry behind (accepted cs) f,
+        second-read entry behind (accepted cs) f,
+        append_assoc (sheet cs) (drop (3 * length cs) []) behind,
+        all-covers cs (drop (3 * length cs) [] ++ behind),
+      )
 
   after-back : (v : Verdict) → Fitting entry v → drop (size_of (front v)) (front v) ≡ behind
-  after-back v f = drop_at (recorded entry v) behind (size_of (front v)) (sym (size_back v f))
+  after-back v f = drop_at (recorded entry v) behind (size_of (front v)) (sym (size-read entry behind v f))
 
 -- the numbers from n on
 unfoldable counting : (n k : ℕ) → List ℕ

@@ -4,9 +4,10 @@ use mathlib.Core.List.{flat_map}
 use Rattle.output.specs.Output.{Written}
 use Rattle.output.proofs.Buffer.{written_none, written-within, same-room, written_then}
 use Rattle.contract.specs.Records.{below}
+use Rattle.contract.specs.Reading.{front_number, size_of}
 use Rattle.listing.specs.Decimal.{two_of, three_of}
 use Rattle.listing.specs.Listing.{refusal_line, accepted_line, rejected_line}
-use Rattle.listing.specs.Coded.{cover_line_at, front_number, lines_of, size_of, text_of}
+use Rattle.listing.specs.Coded.{cover_line_at, lines_of, text_of}
 
 module _ (s : List ℕ) (what : ℕ) (e : what ≡ get_or s 0 0) where
   pub size-alone : (what ≡ 0 → ⊥) → 5 ≡ size_of s

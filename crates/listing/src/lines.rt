@@ -3,8 +3,9 @@ ghost use Rattle.std.specs.Prelude.{◌≡◌, ◌≤◌, ◌<◌, length};
 ghost use mathlib.Core.List.{flat_map};
 ghost use Rattle.output.specs.Output.{Written};
 ghost use Rattle.contract.specs.Records.{below};
+ghost use Rattle.contract.specs.Reading.{front_number, size_of};
 ghost use Rattle.listing.specs.Listing as rules;
-ghost use Rattle.listing.specs.Coded.{cover_line_at, front_number, lines_of, size_of, text_of};
+ghost use Rattle.listing.specs.Coded.{cover_line_at, lines_of, text_of};
 
 use super::text::{write_three, write_two};
 use contract::records::each_record;

@@ -1,7 +1,8 @@
 -- Writing into a buffer: what is written first and what is written then is written, and what has no room stays out.
-use Rattle.std.proofs.Common.{ℕ, ◌+◌, ◌≤◌, ◌<◌, ◌≡◌, refl, sym, ◌∙◌, Bool, true, false, List, [], ◌∷◌, ◌++◌, arith, add-one, leb-true, leb-false, leb, length, get_or, set, take}
-use Rattle.std.proofs.Common.{length-append, take_all, take-suc}
-use lib.Seq.{sets, set_out, length-sets}
+use Rattle.std.proofs.Common.{ℕ, ◌+◌, ◌≤◌, ◌<◌, ◌≡◌, refl, sym, ap, ◌∙◌, Bool, true, false, List, [], ◌∷◌, ◌++◌, arith}
+use Rattle.std.proofs.Common.{add-one, leb-true, leb-false, leb, length, get_or, set, take, drop}
+use Rattle.std.proofs.Common.{length-append, length-take-le, take-append-drop, take_all, take_at, take-suc}
+use lib.Seq.{sets, set_out, sets-eq, length-sets, take-append_seam}
 use Rattle.laws.proofs.Tables.{sets-append, sets-out}
 use Rattle.output.specs.Output.{Written}
 
@@ -37,6 +38,24 @@ module _ (xs t : List ℕ) (n : ℕ) (u : List ℕ) (m : ℕ) (p : Written xs t 
 
     pub written_then : Written (xs ++ ys) t n v r
     written_then = record { kept = then-kept; count = rw length-append (omega (arith, p.count, q.count, same-room)) }
+
+-- what stands in front of the next one is as much of the bytes as there was room for
+pub written-front : (xs t u : List ℕ) (r : ℕ) → Written xs t 0 u r → take r u ≡ take r xs
+written-front xs t u r p = go (leb (length xs) (length t)) refl
+  where
+    go : (b : Bool) → leb (length xs) (length t) ≡ b → take r u ≡ take r xs
+    go true h =
+        let l : length xs ≤ length t = leb-true (length xs) (length t) h in
+        let e : r ≡ length xs = omega (arith, p.count, l) in
+        rw (p.kept, sets-eq xs t 0 (omega (arith, l)), e, take-append_seam, take_all (length xs) xs (omega arith))
+    go false h =
+        let l : length t < length xs = leb-false (length xs) (length t) h in
+        let e : r ≡ length t = omega (arith, p.count, l) in
+        let k : length (take r xs) ≡ r = length-take-le r xs (omega (arith, e, l)) in
+        let part : u ≡ sets t 0 (take r xs) =
+        p.kept ∙ ap (sets t 0) (sym (take-append-drop r xs)) ∙ sym (sets-append (take r xs) (drop r xs) t 0)
+        ∙ sets-out (drop r xs) (sets t 0 (take r xs)) (0 + length (take r xs)) (rw (length-sets t 0 (take r xs)) (omega (arith, e, k))) in
+        rw (part, sets-eq (take r xs) t 0 (omega (arith, k, e))) (take_at (take r xs) (drop (0 + length (take r xs)) t) r k)
 
 -- A text, byte by byte: the bytes before i are written
 pub record Writing (text t : List ℕ) (n : ℕ) (u : List ℕ) (i m : ℕ) : Type 0 where

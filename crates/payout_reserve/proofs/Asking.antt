@@ -36,9 +36,6 @@ told-found model (some r) = refl
 -- Question 9
 
 module _ (file : List ℕ) (n k : ℕ) (s : Place) (e : Found file n s) where
-  pub place_inside : (place : ℕ) → s ≡ At place → place ≤ length file
-  place_inside place f = e.inside place f
-
   pub entry-nowhere : s ≡ Nowhere → answer_of (Refused 9 0) ≡ entry_reserve (fields file) n k
   unfolding entry_reserve
   entry-nowhere f = cc (le-ltb n (length (entries (fields file))) (entry-missing file n s e f))

@@ -1,6 +1,8 @@
 -- Questions 9 to 12: the first "no" is the verdict, and where there is none the matching is.
 use Rattle.std.proofs.Common.{ℕ, ◌-◌, ◌≤◌, ◌<◌, ◌≡◌, refl, sym, ap, ◌∙◌, Bool, true, false, List, [], ◌∷◌, arith, lt-ltb, le-ltb, ltb-true, ltb-false, ltb, length, get_or, take, drop}
 use Rattle.std.proofs.Common.{length-take, length-drop, take_all, get_or-take, get_or-drop}
+use mathlib.Core.Bool.{false≢true}
+use mathlib.Core.Option.{some}
 use Rattle.laws.proofs.Lists.{Every, every-filter, every-at}
 use Rattle.fields.specs.Field.{Fields, Placed, fields, nothing, whole, front, placed, placed_from}
 use Rattle.fields.proofs.Inside.{Stands, row-stands}
@@ -12,7 +14,7 @@ use Rattle.walking.specs.Table.{placed_at}
 use Rattle.claim.specs.Verdict.{refused, entry_at, ask_entry, entry_verdict}
 use Rattle.entries.specs.Calls.{body_where}
 use Rattle.verdict.specs.Coded.{placed_verdict, backed_verdict}
-use Rattle.verdict.specs.Place.{place_of_entry, Found}
+use Rattle.verdict.specs.Place.{place_of, place_of_entry, Found}
 use Rattle.verdict.specs.declared.entry.Place.{Place}
 use Rattle.verdict.specs.declared.entry.Place.TheVariants.{At, Nowhere}
 
@@ -47,43 +49,48 @@ module _ (file : List ℕ) (n : ℕ) where
   -- what is shown is the entry, or there is none
   module _ (r : List ℕ) (e : shown file r ≡ take 1 (drop n (entries (fields file)))) where
     pub place-nowhere : whole r ≡ false → Found file n Nowhere
-    unfolding place_of_entry
+    unfolding place_of place_of_entry
     place-nowhere w = record {
       same = rw (le-ltb n (length (entries (fields file))) (none-shown (entries (fields file)) n no-entry (rw w at e)));
-      inside = λ k f. let z : ◌≡◌ {A = ℕ} 0 1 = cc in absurd (omega arith);
+      inside = λ k f. absurd (false≢true cc);
     }
 
     pub place-there : whole r ≡ true → (k : ℕ) → k ≡ length file - length r → Found file n (At k)
-    unfolding place_of_entry
+    unfolding place_of place_of_entry
     place-there w k f =
         let here : Placed = record { place = length file - length r; this = front r } in
         let one : here ∷ [] ≡ take 1 (drop n (entries (fields file))) = rw w at e in
         record {
           same = rw (lt-ltb n (length (entries (fields file))) (shown-there (entries (fields file)) n no-entry here one))
-              (ap At (f ∙ ap (λ p. p.place) (sym (shown-nth (entries (fields file)) n no-entry here one))));
+              (ap some (f ∙ ap (λ p. p.place) (sym (shown-nth (entries (fields file)) n no-entry here one))));
           inside = λ j g. let z : k ≡ j = cc in omega (arith, f, z);
         }
 
   module _ (r : Place) (v : Found file n r) where
     pub entry-missing : r ≡ Nowhere → length (entries (fields file)) ≤ n
-    unfolding place_of_entry
+    unfolding place_of place_of_entry
     entry-missing f = go v.same (ltb n (length (entries (fields file)))) refl
       where
-        go : r ≡ place_of_entry file n → (b : Bool) → ltb n (length (entries (fields file))) ≡ b → length (entries (fields file)) ≤ n
-        go e true h = let z : ◌≡◌ {A = ℕ} 0 1 = cc in absurd (omega arith)
+        go : place_of r ≡ place_of_entry file n → (b : Bool) → ltb n (length (entries (fields file))) ≡ b → length (entries (fields file)) ≤ n
+        go e true h = absurd (false≢true cc)
         go e false h = ltb-false n (length (entries (fields file))) h
 
     module _ (place : ℕ) (f : r ≡ At place) where
       counted-there : (n < length (entries (fields file))) × ((entry_at (fields file) n).place ≡ place)
-      unfolding place_of_entry
+      unfolding place_of place_of_entry
       counted-there = go v.same (ltb n (length (entries (fields file)))) refl
         where
-          go : r ≡ place_of_entry file n → (b : Bool) → ltb n (length (entries (fields file))) ≡ b → (n < length (entries (fields file))) × ((entry_at (fields file) n).place ≡ place)
+          go : place_of r ≡ place_of_entry file n → (b : Bool) → ltb n (length (entries (fields file))) ≡ b →
+              (n < length (entries (fields file))) × ((entry_at (fields file) n).place ≡ place)
           go e true h = (ltb-true n (length (entries (fields file))) h, (cc))
-          go e false h = let z : ◌≡◌ {A = ℕ} 0 1 = cc in absurd (omega arith)
+          go e false h = absurd (false≢true cc)
 
       pub entry-counted : n < length (entries (fields file))
       entry-counted = counted-there.0
+
+      pub entry-inside : place ≤ length file
+      unfolding place_of
+      entry-inside = v.inside place (ap place_of f)
 
       pub entry-there : entry_at (fields file) n ≡ placed_at file place
       entry-there = stands-there entry-counted ∙ ap (placed_at file) counted-there.1

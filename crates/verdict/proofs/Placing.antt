@@ -11,7 +11,8 @@ use Rattle.entries.specs.Entered.{Read, entry_of, nowhere}
 use Rattle.entries.specs.declared.entry.Entry.{Entry}
 use Rattle.entries.proofs.Called.{payouts-where}
 use Rattle.claim.specs.Verdict.{Verdict, refused, accepted, match_from, matching, backing_count, spare, entry_at, entry_verdict, sheet, written}
-use Rattle.verdict.specs.Coded.{coded, placed_verdict, backed_verdict, placed_answer, placed_covers, entry_answer, entry_covers}
+use Rattle.claim.specs.Verdict.{outcome, first_of, second_of}
+use Rattle.verdict.specs.Coded.{numbers_of, numbers, placed_verdict, backed_verdict, placed_answer, placed_covers, entry_answer, entry_covers}
 use Rattle.verdict.specs.Place.{Found}
 use Rattle.verdict.specs.declared.entry.Place.{Place}
 use Rattle.verdict.specs.declared.entry.Place.TheVariants.{At, Nowhere}
@@ -21,9 +22,9 @@ use Rattle.verdict.proofs.Asking.{ninth, not-ninth, tenth, not-tenth, entry-miss
 
 -- a refusal writes nothing
 module _ (v : Verdict) (k p : ℕ) (e : v ≡ refused k p) where
-  pub told-refused : (rest : ℕ) → Refused k p ≡ coded rest v
-  unfolding coded
-  told-refused rest = rw e
+  pub told-refused : (entry : Field) → numbers_of (Refused k p) ≡ numbers entry v
+  unfolding numbers_of numbers outcome first_of second_of
+  told-refused entry = rw e
 
   pub left-refused : (t : List ℕ) → t ≡ written v t
   unfolding written
@@ -39,7 +40,7 @@ module _ (file : List ℕ) (en : Entry) (v : Read file en) (lent : List ℕ) whe
   this = entry_of file en.place
 
   abbrev told : CodedVerdict → Type 0
-  told x = x ≡ placed_answer file en.place (length lent)
+  told x = numbers_of x ≡ placed_answer file en.place (length lent)
 
   abbrev left : List ℕ → Type 0
   left t = t ≡ placed_covers file en.place lent
@@ -47,7 +48,7 @@ module _ (file : List ℕ) (en : Entry) (v : Read file en) (lent : List ℕ) whe
   refused-by : (k p : ℕ) → placed_verdict (fields file) here (length lent) ≡ refused k p → told (Refused k p) × left lent
   refused-by k p e =
       let w : Verdict = placed_verdict (fields file) here (length lent) in
-      (told-refused w k p e (spare this), left-refused w k p e lent)
+      (told-refused w k p e this, left-refused w k p e lent)
 
   abbrev those : List Placed
   those = body_where is_payout here
@@ -103,7 +104,7 @@ module _ (file : List ℕ) (en : Entry) (v : Read file en) (lent : List ℕ) whe
         unfolding backed_verdict
         matched = past h ∙ cc (all, le-leb en.total 64 g, v.many, le-leb (3 * en.payouts) (length lent) o)
 
-        pub told-matched : (x : CodedVerdict) → x ≡ coded (spare this) (matching (fields file) this) → told x
+        pub told-matched : (x : CodedVerdict) → numbers_of x ≡ numbers this (matching (fields file) this) → told x
         told-matched x f = rw matched f
 
         pub left-matched : (t : List ℕ) → t ≡ written (matching (fields file) this) lent → left t
@@ -119,8 +120,8 @@ module _ (file : List ℕ) (en : Entry) (v : Read file en) (lent : List ℕ) whe
           nothing-matched = matched ∙ rw (matching, nothing-paid)
 
           pub told-unpaid : told (Accepted 0 en.total)
-          unfolding coded spare
-          told-unpaid = rw nothing-matched (ap (λ n. Accepted 0 n) (omega (arith, all, ap length nothing-paid)))
+          unfolding numbers_of numbers outcome first_of second_of spare
+          told-unpaid = rw nothing-matched (ap (λ n. numbers_of (Accepted 0 n)) (omega (arith, all, ap length nothing-paid)))
 
           pub left-unpaid : left lent
           unfolding written sheet
@@ -128,7 +129,7 @@ module _ (file : List ℕ) (en : Entry) (v : Read file en) (lent : List ℕ) whe
 
 -- the entry that was read is the one at the place
 module _ (file : List ℕ) (n place : ℕ) (e : n ≡ place) where
-  pub told-there : (lent : ℕ) (x : CodedVerdict) → x ≡ placed_answer file n lent → x ≡ placed_answer file place lent
+  pub told-there : (lent : ℕ) (x : CodedVerdict) → numbers_of x ≡ placed_answer file n lent → numbers_of x ≡ placed_answer file place lent
   told-there lent x f = rw (← e) f
 
   pub left_there : (t u : List ℕ) → t ≡ placed_covers file n u → t ≡ placed_covers file place u
@@ -141,8 +142,8 @@ module _ (file : List ℕ) (n : ℕ) (r : Place) (e : Found file n r) (lent : Li
     ninth-refused : entry_verdict (fields file) n (length lent) ≡ refused 9 0
     ninth-refused = ninth (fields file) n (length lent) (entry-missing file n r e f)
 
-    pub told-ninth : Refused 9 0 ≡ entry_answer file n (length lent)
-    told-ninth = told-refused (entry_verdict (fields file) n (length lent)) 9 0 ninth-refused (spare (entry_at (fields file) n).this)
+    pub told-ninth : numbers_of (Refused 9 0) ≡ entry_answer file n (length lent)
+    told-ninth = told-refused (entry_verdict (fields file) n (length lent)) 9 0 ninth-refused (entry_at (fields file) n).this
 
     pub left-ninth : lent ≡ entry_covers file n lent
     left-ninth = left-refused (entry_verdict (fields file) n (length lent)) 9 0 ninth-refused lent
@@ -154,10 +155,7 @@ module _ (file : List ℕ) (n : ℕ) (r : Place) (e : Found file n r) (lent : Li
     past-ninth : entry_verdict (fields file) n (length lent) ≡ placed_verdict (fields file) (placed_at file place) (length lent)
     past-ninth = not-ninth (fields file) n (length lent) (entry-counted file n r e place f) (placed_at file place) there
 
-    pub place_inside : place ≤ length file
-    place_inside = e.inside place f
-
-    pub told-placed : (x : CodedVerdict) → x ≡ placed_answer file place (length lent) → x ≡ entry_answer file n (length lent)
+    pub told-placed : (x : CodedVerdict) → numbers_of x ≡ placed_answer file place (length lent) → numbers_of x ≡ entry_answer file n (length lent)
     told-placed x g = rw (past-ninth, there) g
 
     pub left-placed : (left : List ℕ) → left ≡ placed_covers file place lent → left ≡ entry_covers file n lent

@@ -25,14 +25,14 @@ use Rattle.matching.specs.declared.answer.Answer.TheVariants.{Covered, Rejected}
 use Rattle.matching.specs.declared.answer.Answered.{Answered}
 use Rattle.matching.specs.declared.answer.Pass.{Pass}
 use Rattle.matching.proofs.Backed.{backings-many}
-use Rattle.matching.proofs.Covering.{coded-back}
 use Rattle.matching.proofs.Kept.{start-stands}
 use Rattle.matching.proofs.Ways.{Step, a-step}
 use Rattle.claim.specs.Verdict.{Verdict, rejected, accepted, with_cover, match_from, matching, backing_count, spare, kind, index, sheet, written}
+use Rattle.claim.specs.Verdict.{outcome, first_of, second_of}
 use Rattle.claim.proofs.Backs.{Within, step-backs, step-within}
 use Rattle.claim.proofs.Fitting.{backs-below, few-states}
 use Rattle.verdict.specs.Sheet.{cover_bytes}
-use Rattle.verdict.specs.Coded.{coded, matched_answer, matched_covers}
+use Rattle.verdict.specs.Coded.{numbers_of, numbers, matched_answer, matched_covers}
 use Rattle.verdict.specs.declared.entry.Verdict.TheVariants.{Rejected as CodedRejected, Accepted as CodedAccepted}
 
 -- covers in front of those of the later payouts
@@ -180,9 +180,9 @@ module _ (file : List ℕ) (en : Entry) (candidates : List ℕ) where
               let same : answer model entry v.state payout ≡ rejection (reason_of q) = answers.same ∙ ap (λ x. answer_of x answers.after) g in
               v.rest ∙ rw (left_over, match_from, same) (still-rejected v.done k (reason_of q))
 
-          pub rejected-coded : CodedRejected k q ≡ matched_answer file en.place
-          unfolding coded
-          rejected-coded = rw (running-rejected, coded-back q)
+          pub rejected-told : numbers_of (CodedRejected k q) ≡ matched_answer file en.place
+          unfolding numbers_of numbers outcome first_of second_of
+          rejected-told = rw running-rejected
 
           pub rejected-unwritten : (t : List ℕ) → t ≡ matched_covers file en.place t
           unfolding written
@@ -246,11 +246,11 @@ module _ (file : List ℕ) (en : Entry) (candidates : List ℕ) where
         v.rest ∙ rw (none, match_from) (all-covered v.done [] ∙ rw append-nil)
 
     module _ (h : en.payouts ≤ k) where
-      pub done_coded : (rest : ℕ) → rest ≡ en.total - en.payouts → CodedAccepted en.payouts rest ≡ matched_answer file en.place
-      unfolding coded spare backing_count
-      done_coded rest e =
+      pub done-told : (rest : ℕ) → rest ≡ en.total - en.payouts → numbers_of (CodedAccepted en.payouts rest) ≡ matched_answer file en.place
+      unfolding numbers_of numbers outcome first_of second_of spare backing_count
+      done-told rest e =
           let i : rest ≡ spare entry = omega (arith, e, d.all, d.counted, d.many) in
-          rw (running-done h, ← i) (ap (λ n. CodedAccepted n rest) (omega (arith, h, v.reached, v.many)))
+          rw (running-done h, ← i) (ap (λ n. numbers_of (CodedAccepted n rest)) (omega (arith, h, v.reached, v.many)))
 
       pub done-written : (covers left : List ℕ) → left ≡ take (3 * en.payouts) bytes ++ drop (3 * en.payouts) covers → left ≡ matched_covers file en.place covers
       unfolding written

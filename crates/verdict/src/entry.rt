@@ -5,7 +5,7 @@ ghost use Rattle.entries.specs.Entered.{Lent, Read, Entered};
 ghost use Rattle.reserves.specs.Holding.{Facts, Known};
 ghost use Rattle.matching.specs.Prepared.{Prepared};
 ghost use Rattle.verdict.specs.Place.{Found};
-ghost use Rattle.verdict.specs.Coded.{placed_answer, placed_covers, matched_answer, matched_covers, entry_answer, entry_covers};
+ghost use Rattle.verdict.specs.Coded.{numbers_of, placed_answer, placed_covers, matched_answer, matched_covers, entry_answer, entry_covers};
 
 use super::sheet::{copy_sheet, write_cover};
 use backings::marks::all_free;
@@ -56,7 +56,7 @@ fn match_payouts(
     requires prepared { Prepared file.now entry candidates.now facts.old }
     requires scratch { length file.now ≤ 3 * length scratch.old }
     requires room { 3 * entry.payouts ≤ length covers.old }
-    ensures answer { result ≡ matched_answer file.now entry.place }
+    ensures answer { numbers_of result ≡ matched_answer file.now entry.place }
     ensures covers { covers.new ≡ matched_covers file.now entry.place covers.old }
     ensures facts { Facts file.now facts.new }
 {
@@ -123,7 +123,7 @@ fn cover_payouts(
     requires table { Lent file.now entry.place table.old }
     requires known { Known file.now facts.old scratch.old }
     requires room { 3 * entry.payouts ≤ length covers.old }
-    ensures answer { result ≡ matched_answer file.now entry.place }
+    ensures answer { numbers_of result ≡ matched_answer file.now entry.place }
     ensures covers { covers.new ≡ matched_covers file.now entry.place covers.old }
     ensures facts { Facts file.now facts.new }
 {
@@ -144,7 +144,7 @@ fn asked_verdict(
     requires read { Read file.now entry }
     requires table { Lent file.now entry.place table.old }
     requires known { Known file.now facts.old scratch.old }
-    ensures answer { result ≡ placed_answer file.now entry.place (length covers.old) }
+    ensures answer { numbers_of result ≡ placed_answer file.now entry.place (length covers.old) }
     ensures covers { covers.new ≡ placed_covers file.now entry.place covers.old }
     ensures facts { Facts file.now facts.new }
 {
@@ -187,7 +187,7 @@ pub fn placed_verdict(
 ) -> Verdict
     requires table { Lent file.now place table.old }
     requires known { Known file.now facts.old scratch.old }
-    ensures answer { result ≡ placed_answer file.now place (length covers.old) }
+    ensures answer { numbers_of result ≡ placed_answer file.now place (length covers.old) }
     ensures covers { covers.new ≡ placed_covers file.now place covers.old }
     ensures facts { Facts file.now facts.new }
 {
@@ -199,7 +199,7 @@ pub fn placed_verdict(
 fn verdict_at(file: &[u8], place: usize, covers: &mut [u8]) -> Verdict
     requires short { length file.now ≤ 32768 }
     requires inside { place ≤ length file.now }
-    ensures answer { result ≡ placed_answer file.now place (length covers.old) }
+    ensures answer { numbers_of result ≡ placed_answer file.now place (length covers.old) }
     ensures covers { covers.new ≡ placed_covers file.now place covers.old }
 {
     let mut facts = nothing_known();
@@ -236,7 +236,7 @@ pub fn place_of_entry(file: &[u8], n: usize) -> Place
 // The verdict on the n-th entry of a file that passes question 1.
 pub fn entry_verdict(file: &[u8], n: usize, covers: &mut [u8]) -> Verdict
     requires { length file.now ≤ 32768 }
-    ensures answer { result ≡ entry_answer file.now n (length covers.old) }
+    ensures answer { numbers_of result ≡ entry_answer file.now n (length covers.old) }
     ensures covers { covers.new ≡ entry_covers file.now n covers.old }
 {
     match place_of_entry(file, n) {

@@ -3,4 +3,5 @@
 
 pub mod entry;
 pub mod file;
+pub mod numbers;
 pub mod sheet;

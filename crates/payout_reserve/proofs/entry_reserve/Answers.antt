@@ -1,9 +1,10 @@
 -- The ninth question, or the reserve of the entry at its place.
-use Rattle.payout_reserve.proofs.Asking.{place_inside, entry-nowhere, entry-covered, entry-uncovered}
+use Rattle.verdict.proofs.Asking.{entry-inside}
+use Rattle.payout_reserve.proofs.Asking.{entry-nowhere, entry-covered, entry-uncovered}
 use Rattle.payout_reserve.proofs.entry_reserve.Goals as goal
 
 pub reserve_at-requires-clause-inside : goal.reserve_at-requires-clause-inside
-reserve_at-requires-clause-inside c = search place_inside
+reserve_at-requires-clause-inside c = search entry-inside
 
 pub returns-in-Nowhere : goal.returns-in-Nowhere
 returns-in-Nowhere c = search entry-nowhere

@@ -1,6 +1,6 @@
 -- Two bytes, most significant first.
 use Rattle.std.proofs.Common.{rules}
-use Rattle.listing.specs.Coded.{front_number}
+use Rattle.contract.specs.Reading.{front_number}
 use Rattle.listing.proofs.lines.front_number.Goals as goal
 
 pub returns : goal.returns

@@ -1,7 +1,7 @@
 -- Payout by payout: those before the k-th have their covers.
 use Rattle.std.proofs.Common.{rules}
 use Rattle.verdict.proofs.Running.{running_none, running-held, running-kept, running-long, running-facts, running-room, running-wide, running-ready, running-next, running-on}
-use Rattle.verdict.proofs.Running.{rejected-coded, rejected-unwritten, done_coded, done-written, done-long}
+use Rattle.verdict.proofs.Running.{rejected-told, rejected-unwritten, done-told, done-written, done-long}
 use Rattle.verdict.proofs.entry.match_payouts.Goals as goal
 
 pub loop-k-init : goal.loop-k-init
@@ -20,7 +20,7 @@ pub shape_of-scratch-in-Rejected : goal.shape_of-scratch-in-Rejected
 shape_of-scratch-in-Rejected c = search (running-long, rules)
 
 pub returns-in-Rejected-clause-answer : goal.returns-in-Rejected-clause-answer
-returns-in-Rejected-clause-answer c = search rejected-coded
+returns-in-Rejected-clause-answer c = search rejected-told
 
 pub returns-in-Rejected-clause-covers : goal.returns-in-Rejected-clause-covers
 returns-in-Rejected-clause-covers c = search rejected-unwritten
@@ -47,7 +47,7 @@ pub shape_of-scratch : goal.shape_of-scratch
 shape_of-scratch c = search (running-long, rules)
 
 pub returns-clause-answer : goal.returns-clause-answer
-returns-clause-answer c = search done_coded
+returns-clause-answer c = search done-told
 
 pub returns-clause-covers : goal.returns-clause-covers
 returns-clause-covers c = search done-written

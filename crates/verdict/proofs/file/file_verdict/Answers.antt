@@ -5,8 +5,8 @@ use Rattle.questions.specs.Questions.{passes, ask_file}
 use Rattle.questions.specs.Answers.{asked}
 use Rattle.questions.specs.declared.check.Answer.{Answer}
 use Rattle.questions.specs.declared.check.Answer.TheVariants as question
-use Rattle.claim.specs.Verdict.{refused, entry_at, entry_verdict, verdict, spare, written}
-use Rattle.verdict.specs.Coded.{coded}
+use Rattle.claim.specs.Verdict.{refused, entry_at, entry_verdict, verdict, outcome, first_of, second_of, written}
+use Rattle.verdict.specs.Coded.{numbers_of, numbers}
 use Rattle.verdict.specs.declared.entry.Verdict.{Verdict as CodedVerdict}
 use Rattle.verdict.specs.declared.entry.Verdict.TheVariants.{Refused}
 use Rattle.claim.proofs.Fitting.{short-file}
@@ -24,8 +24,8 @@ module _ (file : List ℕ) (a : Answer) (e : asked a ≡ ask_file file) where
     unfolding verdict
     same = cc (passed h)
 
-    told-passed : (x : CodedVerdict) → x ≡ coded (spare (entry_at (fields file) n).this) (entry_verdict (fields file) n (length lent)) →
-        x ≡ coded (spare (entry_at (fields file) n).this) (verdict file n (length lent))
+    told-passed : (x : CodedVerdict) → numbers_of x ≡ numbers (entry_at (fields file) n).this (entry_verdict (fields file) n (length lent)) →
+        numbers_of x ≡ numbers (entry_at (fields file) n).this (verdict file n (length lent))
     told-passed x f = rw same f
 
     left_passed : (left : List ℕ) → left ≡ written (entry_verdict (fields file) n (length lent)) lent → left ≡ written (verdict file n (length lent)) lent
@@ -36,8 +36,8 @@ module _ (file : List ℕ) (a : Answer) (e : asked a ≡ ask_file file) where
     unfolding verdict
     no = cc
 
-    told-no : Refused k p ≡ coded (spare (entry_at (fields file) n).this) (verdict file n (length lent))
-    unfolding coded
+    told-no : numbers_of (Refused k p) ≡ numbers (entry_at (fields file) n).this (verdict file n (length lent))
+    unfolding numbers_of numbers outcome first_of second_of
     told-no = rw no
 
     left-no : lent ≡ written (verdict file n (length lent)) lent

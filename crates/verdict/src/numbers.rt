@@ -2,12 +2,12 @@
 ghost use Rattle.std.specs.Prelude.{◌≡◌};
 ghost use Rattle.matching.specs.Coded.{reason_of};
 ghost use Rattle.claim.specs.Verdict.{reason};
-ghost use Rattle.contract.specs.Coded.{Numbered};
+ghost use Rattle.verdict.specs.Coded.{numbers_of};
 
+use super::entry::Verdict;
 use matching::answer::Reason;
-use verdict::entry::Verdict;
 
-// What the verdict is, 0 accepted, 1 rejected, 2 refused, and two numbers beside (specs/Answer).
+// What the verdict is, 0 accepted, 1 rejected, 2 refused, and two numbers beside (Verdict in the specs of crates/claim).
 #[derive(Clone, Copy)]
 pub struct Numbers {
     pub outcome: u8,
@@ -31,7 +31,7 @@ fn number_of(why: Reason) -> usize
 
 // The numbers of a verdict.
 pub fn numbers_of(verdict: Verdict) -> Numbers
-    ensures { Numbered verdict result }
+    ensures { result ≡ numbers_of verdict }
 {
     match verdict {
         Verdict::Accepted { payouts, spare } => Numbers {

@@ -1,6 +1,6 @@
 -- Case by case.
 use Rattle.claim.specs.Verdict.{reason}
-use Rattle.contract.proofs.numbers.number_of.Goals as goal
+use Rattle.verdict.proofs.numbers.number_of.Goals as goal
 
 pub returns-in-SplitWithoutAmount : goal.returns-in-SplitWithoutAmount
 unfolding reason
