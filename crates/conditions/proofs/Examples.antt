@@ -5,8 +5,8 @@ use Rattle.laws.specs.Lists.{filter}
 use Rattle.tags.specs.Tag.{Entry, Limits, Denies, Guard, Let, Identifier, Not, Negate, Call, Checked, Wrapping, Or, And, Eq, Ne, Lt, Gt, Le, Ge, Add, composite}
 use Rattle.fields.specs.Field.{fields, fields_to, front, nth, nothing, size, sizes, placed, placed_from}
 use Rattle.fields.proofs.Writing.{write, name, identifier}
-use Rattle.conditions.specs.Conditions.{split_and, split_first, negated, negated_first, conditions_of, required_conditions, opposite, operator}
-use Rattle.conditions.specs.Table.{mark, marks, condition_at}
+use Rattle.conditions.specs.Conditions.{split_and, split_each, split_first, negated, negated_first, conditions_of, required_conditions, opposite, operator}
+use Rattle.conditions.specs.Table.{mark, marks, condition_at, conditions_at}
 
 -- two identifiers of four bytes, and a comparison of eleven
 abbrev a : List ℕ
@@ -103,3 +103,9 @@ guard-first = refl
 no-entry : required_conditions nothing ≡ []
 unfolding placed placed_from filter flat_map required_conditions
 no-entry = refl
+
+-- Of one clause or guard that stands at 7: its expression is behind its head; a part that is cut off gives nothing
+at_seven : map (λ s. marks (conditions_at s 7)) (write Limits both ∷ write Denies equal ∷ write Guard equal ∷ write Guard [] ∷ [] ∷ [])
+    ≡ (13 ∷ 17 ∷ []) ∷ (32778 ∷ []) ∷ (10 ∷ []) ∷ [] ∷ [] ∷ []
+unfolding fields fields_to nth composite size sizes split_and split_each split_first negated negated_first conditions_of mark conditions_at
+at_seven = refl

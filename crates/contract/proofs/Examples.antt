@@ -3,7 +3,7 @@ use Rattle.std.proofs.Common.{ℕ, ◌≡◌, refl, Bool, true, false, List, [],
 use mathlib.Core.List.{flat_map}
 use Rattle.fields.proofs.Writing.{integer, times}
 use Rattle.claim.specs.Verdict.{kind, index, reason, outcome, first_of, second_of, sheet, written, spare}
-use Rattle.claim.proofs.Samples.{found, entry, state, asset, guard, holds, amount, send, raising, drawing}
+use Rattle.claim.proofs.Samples.{found, entry, state, asset, amount, send, k3, k11}
 use Rattle.contract.specs.Records.{two_bytes, recorded, verdict_on, record_on, below, at_least_one, records, largest, outcome_of_all}
 use Rattle.contract.specs.Reading.{front_number, outcome_in, first_in, second_in, size_of, covers_in, records_from}
 
@@ -16,11 +16,8 @@ unfolding found outcome verdict_on at_least_one largest outcome_of_all
 together_in file = outcome_of_all file
 
 -- K11: the first entry raises the reserve, pays nothing out and has a parameter to spare, the second draws on it
-k11 : List ℕ
-k11 = state "r" (integer "0") ++ raising (guard (holds "T")) ++ entry (asset "b" ++ drawing)
-
 k11-records : records_of k11 ≡ 0 ∷ 0 ∷ 0 ∷ 0 ∷ 1 ∷ 0 ∷ 0 ∷ 1 ∷ 0 ∷ 0 ∷ 5 ∷ 0 ∷ 0 ∷ []
-unfolding records_of k11
+unfolding records_of
 k11-records = refl
 
 -- an entry that is rejected at its second payout, since the amount is taken, between two others
@@ -47,7 +44,7 @@ tenth-records = refl
 -- all accepted, one rejected, one refused, the file refused, no entries
 together-examples : together_in k11 ∷ together_in three ∷ together_in (tenth ++ three) ∷ together_in (0x03 ∷ 0x00 ∷ []) ∷ together_in [] ∷ []
     ≡ 0 ∷ 1 ∷ 2 ∷ 2 ∷ 2 ∷ []
-unfolding together_in k11 three tenth
+unfolding together_in three tenth
 together-examples = refl
 
 -- Records read back
@@ -63,9 +60,6 @@ unfolding front_number size_of covers_in records_from
 read_in bytes n = let r = records_from bytes n in (outcome_in r, first_in r, second_in r, covers_in r)
 
 -- K3: its 8 bytes are whole, with others behind them too, and 7 of them, 5 or 4 are not
-k3 : List ℕ
-k3 = entry (asset "a" ++ send (amount "a"))
-
 k3-read : read_in (records_of k3) 0 ≡ (0, 1, 0, 2 ∷ 0 ∷ 0 ∷ [])
 unfolding records_of read_in k3
 k3-read = refl
@@ -81,12 +75,12 @@ k3-whole = refl
 
 -- two records, 5 bytes and 8: the second can be cut off by itself, and with the first nothing is left of it; there is no third
 k11-read : read_in (records_of k11) 1 ≡ (0, 1, 0, 5 ∷ 0 ∷ 0 ∷ [])
-unfolding records_of read_in k11
+unfolding records_of read_in
 k11-read = refl
 
 k11-whole : map (λ k. whole_in 3 (take k (records_of k11))) (4 ∷ 5 ∷ 12 ∷ 13 ∷ [])
     ≡ (false ∷ false ∷ false ∷ []) ∷ (true ∷ false ∷ false ∷ []) ∷ (true ∷ false ∷ false ∷ []) ∷ (true ∷ true ∷ false ∷ []) ∷ []
-unfolding records_of whole_in k11
+unfolding records_of whole_in
 k11-whole = refl
 
 -- a rejected entry between two others has no covers, whatever the number of its payout

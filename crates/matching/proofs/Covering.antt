@@ -33,7 +33,7 @@ module _ (m : Coded) (count : ℕ) (c : Cover) (i : ℕ) (r : Coded) where
   unfolding after_cover
   after-reserve h e = rw h e
 
--- a cover and a reason of the definition as the code's and back, and a reason of the code's the other way round
+-- a cover and a reason of the definition as the code's and back
 pub cover-back : (c : matching.Cover) → cover_of (coded_cover c) ≡ c
 cover-back (equal_debit i) = refl
 cover-back (equal_parameter i) = refl
@@ -48,11 +48,3 @@ reason-back amount_taken = refl
 reason-back conflict_at_bounding = refl
 reason-back no_reserve = refl
 reason-back reserve_used = refl
-
-pub coded-back : (r : Reason) → coded_reason (reason_of r) ≡ r
-coded-back SplitWithoutAmount = refl
-coded-back ConflictAtEqual = refl
-coded-back AmountTaken = refl
-coded-back ConflictAtBounding = refl
-coded-back NoReserve = refl
-coded-back ReserveUsed = refl

@@ -6,16 +6,21 @@ use Rattle.laws.specs.Lists.{any, all, filter, find}
 use Rattle.laws.specs.Texts.{same_bytes, bytes, known}
 use Rattle.tags.specs.Tag.{State, Entry, Parameter, Limits, Guard, AddTo, SubtractFrom, ExpressionStatement, Caller, InAsset, Member, Call, Checked, And, Eq, Ne, composite, is_assign}
 use Rattle.tags.specs.Tag.{is_expression, is_statement, is_wrapper}
-use Rattle.fields.specs.Field.{fields, fields_to, nth, row, fields_from, size, sizes, placed, placed_from}
+use Rattle.fields.specs.Field.{fields, fields_to, nth, row, fields_from, size, sizes, placed, placed_from, place_of}
 use Rattle.fields.proofs.Writing.{write, name, type_name, integer, identifier}
 use Rattle.model.specs.Model.{genesis, entries, params, body}
-use Rattle.walking.specs.Walking.{peel, peel_first, walk, walk_parts, stmt_exprs, body_exprs, exprs, guards, ident, method, receiver, is_debit, asset_amount_backer, is_asset_parameter}
+use Rattle.walking.specs.Walking.{peel, peel_first, peel_place, peel_first_place, walk, walk_parts, stmt_exprs, body_exprs, exprs, guards, ident, method, receiver, is_debit, asset_amount_backer, is_asset_parameter}
 use Rattle.walking.specs.Walking.{asset_params, debits}
 use Rattle.equality.specs.Equality.{expr_eq, parts_eq, strip, same_text}
 use Rattle.conditions.specs.Conditions.{split_and, split_each, split_first, negated, negated_each, negated_first, conditions_of, required_conditions, opposite, operator}
-use Rattle.tokens.specs.Tokens.{single, beside_in_asset, token_named, tokens_named, is_inflow, is_credit, is_funding}
+use Rattle.tokens.specs.Tokens.{single, differ, beside_in_asset, token_named, tokens_named, is_inflow, is_credit, is_funding}
 use Rattle.fundings.specs.FundingTokens.{funds, ledger_funding_tokens, funding_token}
 use Rattle.raises.specs.Raises.{assigns, value, sets_from, is_zero, defaults, genesis_values, starts_at_zero, raise, raises}
+use Rattle.tokens.specs.Numbers.{token_of, joined, joined_all, condition_number, tokens_number}
+use Rattle.tokens.specs.Place.{beside_place, token_place}
+use Rattle.fundings.specs.Fundings.{funding_number}
+use Rattle.reserve_tokens.specs.Reserving.{bars}
+use Rattle.reserve_tokens.specs.Numbers.{guard_number, guard_numbers, only_number, debit_number, raise_number, numbers_in, agreed, reserve_number}
 use Rattle.reserve_tokens.specs.ReserveTokens.{credited, guard_token, guard_tokens, only, debit_token, raise_token, raise_tokens, reserve_token}
 
 abbrev r : List ℕ
@@ -112,3 +117,28 @@ none-held : held
     ≡ [] ∷ [] ∷ [] ∷ [] ∷ [] ∷ [] ∷ []
 unfolding held
 none-held = refl
+
+-- The same by numbers, and where the token stands: that of the last raise
+
+-- the number and the place of its token
+numbered : List ℕ → ℕ × ℕ
+unfolding held known token_of joined joined_all condition_number tokens_number funding_number peel_place peel_first_place place_of beside_place token_place bars
+    differ guard_number guard_numbers only_number debit_number raise_number numbers_in agreed reserve_number
+numbered m = let k = reserve_number m (bytes "r") in (k, token_place m k)
+
+-- by a guard; in two entries, of which the second counts; by a debit, whose map the first of two entries funds; with a guard behind a
+-- wrapper
+numbers : map numbered
+    (taking (guard (holds "T") ++ raised amount) ∷ (taking (guard (holds "T") ++ raised amount) ++ taking (guard (holds "T") ++ raised amount))
+    ∷ (funding "m" "T" ++ (funding "m" "T" ++ entry (calls "m" "debit" v ++ raised v))) ∷ taking (guard (checked (holds "T")) ++ raised amount) ∷ [])
+    ≡ (29, 36) ∷ (89, 96) ∷ (29, 36) ∷ (32, 39) ∷ []
+unfolding numbered
+numbers = refl
+
+-- none: no raise, a start at 1, the guard twice, two tokens that differ, a map that nothing funds
+none-numbered : map (λ m. (numbered m).0)
+    ([] ∷ (state "r" (integer "1") ++ taking (guard (holds "T") ++ raised amount)) ∷ taking (guard (holds "T") ++ (guard (holds "T") ++ raised amount))
+    ∷ (taking (guard (holds "T") ++ raised amount) ++ taking (guard (holds "U") ++ raised amount)) ∷ entry (calls "m" "debit" v ++ raised v) ∷ [])
+    ≡ 1 ∷ 1 ∷ 1 ∷ 1 ∷ 1 ∷ []
+unfolding numbered
+none-numbered = refl

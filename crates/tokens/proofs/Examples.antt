@@ -5,12 +5,12 @@ use mathlib.Core.List.{flat_map}
 use Rattle.laws.specs.Lists.{all, filter}
 use Rattle.laws.specs.Texts.{same_bytes, bytes, known}
 use Rattle.tags.specs.Tag.{Entry, Limits, Denies, Guard, InAsset, Checked, Wrapping, Not, Or, And, Eq, Ne, Lt, composite, is_wrapper}
-use Rattle.fields.specs.Field.{fields, fields_to, front, nth, size, sizes, placed, placed_from, place_of}
+use Rattle.fields.specs.Field.{Placed, fields, fields_to, front, nth, size, sizes, placed, placed_from, place_of}
 use Rattle.fields.proofs.Writing.{write, name, identifier}
 use Rattle.walking.specs.Walking.{peel, peel_first, peel_place, peel_first_place, ident}
 use Rattle.conditions.specs.Conditions.{split_and, split_each, split_first, negated, negated_each, negated_first, conditions_of, required_conditions, opposite, operator}
 use Rattle.tokens.specs.Tokens.{single, beside_in_asset, token_named, tokens_named, admitted_inflow_token}
-use Rattle.tokens.specs.Numbers.{token_of, joined, joined_all, condition_number, tokens_number}
+use Rattle.tokens.specs.Numbers.{token_of, joined, joined_all, condition_number, joined_from, tokens_number}
 use Rattle.tokens.specs.Place.{beside_place, token_place}
 
 abbrev in_asset : List ℕ
@@ -88,3 +88,17 @@ numbering : numbered
     ≡ 0 ∷ 0 ∷ 12 ∷ 19 ∷ 12 ∷ 1 ∷ 1 ∷ []
 unfolding numbered
 numbering = refl
+
+-- what its limits and denials name, and what its guards name, each by itself; with a token found before, the same and another
+from_either : List (List ℕ) → List (ℕ × ℕ × ℕ)
+unfolding numbered joined_from
+from_either cs =
+    map (λ c. let e : Placed = record { place = 0; this = front (entry c) } in
+    (joined_from (entry c) Limits Denies e 0, joined_from (entry c) Guard Guard e 0, joined_from (entry c) Guard Guard e 12)) cs
+
+either : from_either
+    ([] ∷ limits (holds "T") ∷ (limits (holds "T") ++ guard (holds "T")) ∷ (limits (holds "T") ++ guard (holds "U"))
+    ∷ (denies (write Ne (in_asset ++ identifier "T")) ++ limits (holds "U")) ∷ [])
+    ≡ (0, 0, 12) ∷ (12, 0, 12) ∷ (12, 25, 12) ∷ (12, 25, 1) ∷ (1, 0, 12) ∷ []
+unfolding from_either
+either = refl
