@@ -4,12 +4,12 @@
 //! include/zevdrak_compare.h.
 //!
 //! [`reserve_bounding_payout`] asks the questions about the file and the entry
-//! first, and took at most 148 KB of stack. The others ask none, since they are
+//! first, and took at most 144 KB of stack. The others ask none, since they are
 //! compared on parts of files too, and go into what they are given as deep as it
 //! is nested: a level takes 48 bytes in [`expr_eq`] and [`bounded_by_backing`], 64
 //! in the three about tokens. So bytes that are nested thousands deep overflow a
 //! small stack, and that ends the process. On a file that [`crate::check_file`]
-//! passes, where expressions are at most 32 deep, none of them took more than 84
+//! passes, where expressions are at most 32 deep, none of them took more than 80
 //! KB; a stack of 2 MB, which a thread has if nothing else is said, is enough for
 //! any bytes. That is measured, and no proof bounds it.
 
