@@ -1,5 +1,5 @@
 -- The index of a cover that backs a payout fits in two bytes: an entry has few backings, and a file few state fields.
-use Rattle.std.proofs.Common.{ℕ, zero, suc, ◌+◌, ◌≤◌, ◌<◌, suc-le-suc, le_trans, arith, ◌≡◌, refl, Bool, true, false, ◌&&◌, ◌||◌, List, leb-true, eqb, leb, ltb, length}
+use Rattle.std.proofs.Common.{ℕ, zero, suc, ◌+◌, ◌≤◌, ◌<◌, suc-le-suc, le_trans, arith, ◌≡◌, refl, sym, ap, ◌∙◌, Bool, true, false, ◌&&◌, ◌||◌, List, leb-true, eqb, leb, length}
 use lib.ListN.{length-map}
 use Rattle.laws.specs.Lists.{filter}
 use Rattle.laws.proofs.Lists.{filter-few}
@@ -7,13 +7,16 @@ use Rattle.laws.proofs.Numbered.{numbered-length}
 use Rattle.laws.proofs.Truths.{and_right, either}
 use Rattle.tags.specs.Tag.{State, between}
 use Rattle.fields.specs.Field.{Field, Fields, fields, tag, fields_to, row, fields_from, whole, after}
-use Rattle.model.specs.Model.{state_names, entries}
+use Rattle.model.specs.Model.{state_names}
 use Rattle.questions.specs.Questions.{Asked, passes, fails, ask, ◌and_then◌, ask_form, ask_file, at_most}
+use Rattle.questions.specs.Answers.{asked as asked_by}
+use Rattle.questions.specs.declared.check.Answer.{Answer}
+use Rattle.questions.specs.declared.check.Answer.TheVariants.{Passes}
 use Rattle.walking.specs.Walking.{debits, asset_params, is_payout, body_exprs}
 use Rattle.matching.specs.Matching.{Cover, Marks, debit_backings, parameter_backings, answer}
 use Rattle.matching.specs.Matching.Answer.{cover}
 use Rattle.matching.proofs.Ways.{a-step}
-use Rattle.claim.specs.Verdict.{backing_count, entry_at, ask_entry, kind, index}
+use Rattle.claim.specs.Verdict.{backing_count, entry_at, ask_exists, ask_entry, kind, index}
 use Rattle.claim.specs.Claim.{passes_at, backs_equal, backs_bounding, backs_reserve, backs}
 use Rattle.claim.proofs.Numbered.{at-below}
 use Rattle.claim.proofs.Backs.{Within, step-backs}
@@ -87,7 +90,7 @@ module _ (file : List ℕ) (f : ask_file file ≡ passes) where
         let entry = entry_at (fields file) n in
         leb-true (backing_count entry.this) 64 (asked (leb (backing_count entry.this) 64) 11 entry.place (earlier-asked _ _
         (later-asked (at_most 64 10 (filter (λ p. is_payout p.this) (body_exprs entry))) _
-        (later-asked (ask (ltb n (length (entries (fields file)))) 9 0) _ e))))
+        (later-asked (ask_exists (fields file) n) _ e))))
 
     -- past every check
     pub index-fits : (p : Field) (k i : ℕ) → backs (fields file) (entry_at (fields file) n).this p k i ≡ true → i < 65536
@@ -100,3 +103,11 @@ module _ (file : List ℕ) (f : ask_file file ≡ passes) where
     answer-fits s w p c t e =
         let entry = (entry_at (fields file) n).this in
         index-fits p (kind c) (index c) (step-backs (fields file) entry s w p c t (a-step (fields file) entry s t p c e))
+
+-- by the answer that the code gives
+module _ (file : List ℕ) (a : Answer) (e : asked_by a ≡ ask_file file) (h : a ≡ Passes) where
+  pub answered-passes : ask_file file ≡ passes
+  answered-passes = sym e ∙ ap asked_by h
+
+  pub answered-short : length file ≤ 32768
+  answered-short = short-file file answered-passes

@@ -42,11 +42,15 @@ backing_count entry = length (debits entry) + length (asset_params entry)
 abbrev pub entry_at : Fields → ℕ → Placed
 entry_at model n = get_or (entries model) n (record { place = 0; this = nothing })
 
+-- question 9: does entry n exist?
+abbrev pub ask_exists : Fields → ℕ → Asked
+ask_exists model n = ask (ltb n (length (entries model))) 9 0
+
 -- questions 9 to 12, about the entry asked about and the length of the lent covers
 unfoldable pub ask_entry : Fields → ℕ → ℕ → Asked
 ask_entry model n lent =
     let e = entry_at model n in
-    ask (ltb n (length (entries model))) 9 0
+    ask_exists model n
     and_then at_most 64 10 (filter (λ p. is_payout p.this) (body_exprs e))
     and_then ask (leb (backing_count e.this) 64) 11 e.place
     and_then ask (leb (3 * length (payouts e.this)) lent) 12 0

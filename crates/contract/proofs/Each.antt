@@ -8,7 +8,7 @@ use Rattle.questions.specs.Answers.{asked}
 use Rattle.questions.specs.declared.check.Answer.{Answer}
 use Rattle.questions.specs.declared.check.Answer.TheVariants.{Passes, Refused}
 use Rattle.claim.specs.Verdict.{refused, verdict, outcome, first_of, second_of, written}
-use Rattle.claim.proofs.Fitting.{short-file}
+use Rattle.claim.proofs.Fitting.{answered-short}
 use Rattle.verdict.proofs.Asking.{ninth}
 use Rattle.output.specs.Output.{Written}
 use Rattle.contract.specs.Records.{recorded, verdict_on, record_on, below, at_least_one, records, largest, outcome_of_all, covers_enough}
@@ -28,12 +28,9 @@ refusal-same entry k p = refl
 
 -- by the answer to questions 1 to 8
 module _ (file : List ℕ) (a : Answer) (e : asked a ≡ ask_file file) where
-  pub asked-all : a ≡ Passes → ask_file file ≡ passes
-  asked-all f = sym e ∙ ap asked f
-
   -- the longer table has a number for each three bytes
   pub table-enough : a ≡ Passes → length file ≤ 32769
-  table-enough f = omega (arith, short-file file (asked-all f))
+  table-enough f = omega (arith, answered-short file a e f)
 
   pub refused-each : (k p : ℕ) → a ≡ Refused k p → (t u : List ℕ) (r : Recorded) → RefusalRecorded k p t u r → EachRecorded file t u r
   unfolding largest_of_each record_count each_record

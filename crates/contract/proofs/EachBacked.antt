@@ -4,8 +4,8 @@ use Rattle.std.proofs.Common.{ℕ, ◌<◌, ◌≡◌, arith, ltb-true, ltb, len
 use mathlib.Core.List.{List, [], ◌++◌, flat_map}
 use Rattle.fields.specs.Field.{Field, fields}
 use Rattle.model.specs.Model.{entries}
-use Rattle.questions.specs.Questions.{passes, ask, ask_file}
-use Rattle.claim.specs.Verdict.{entry_at, ask_entry, entry_verdict, verdict}
+use Rattle.questions.specs.Questions.{passes, ask_file}
+use Rattle.claim.specs.Verdict.{entry_at, ask_exists, ask_entry, entry_verdict, verdict}
 use Rattle.claim.specs.Claim.{Backed}
 use Rattle.claim.proofs.Fitting.{earlier-asked, asked}
 use Rattle.claim.proofs.Claim.{backed-by}
@@ -28,7 +28,7 @@ module _ (file : List ℕ) (n : ℕ) (f : ask_file file ≡ passes) (e : ask_ent
   -- question 9
   there : n < count
   unfolding ask_entry
-  there = ltb-true n count (asked (ltb n count) 9 0 (earlier-asked (ask (ltb n count) 9 0) _ e))
+  there = ltb-true n count (asked (ltb n count) 9 0 (earlier-asked (ask_exists (fields file) n) _ e))
 
   -- of what is read in front of some bytes
   abbrev ReadBacked : List ℕ → Type 0

@@ -1,5 +1,5 @@
 -- What the questions say of a file and of an entry that pass them.
-use Rattle.std.proofs.Common.{ℕ, ◌*◌, ◌≤◌, ◌≡◌, refl, ap, List, [], ◌∷◌, arith, leb-true, leb, ltb, length, drop, length-drop}
+use Rattle.std.proofs.Common.{ℕ, ◌*◌, ◌≤◌, ◌≡◌, refl, ap, List, [], ◌∷◌, arith, leb-true, leb, length, drop, length-drop}
 use mathlib.Core.Bool.{false≢true}
 use Rattle.laws.specs.Lists.{filter}
 use Rattle.fields.specs.Field.{Fields, Placed, fields}
@@ -7,7 +7,7 @@ use Rattle.model.specs.Model.{states, entries}
 use Rattle.questions.specs.Questions.{Asked, passes, fails, ask, ◌and_then◌, at_most, ask_form, ask_names, ask_file}
 use Rattle.walking.specs.Walking.{body_exprs, is_payout, payouts}
 use Rattle.matching.specs.Matching.{Cover, start}
-use Rattle.claim.specs.Verdict.{accepted, matching, backing_count, entry_at, ask_entry, entry_verdict}
+use Rattle.claim.specs.Verdict.{accepted, matching, backing_count, entry_at, ask_exists, ask_entry, entry_verdict}
 use Rattle.claim.proofs.Fitting.{earlier-asked, later-asked, asked}
 use Rattle.claim.proofs.Passing.{a-pass, passed-count}
 use Rattle.contract.specs.Records.{covers_enough}
@@ -31,7 +31,7 @@ module _ (model : Fields) (n lent : ℕ) (e : ask_entry model n lent ≡ passes)
   after-ninth : at_most 64 10 (filter (λ p. is_payout p.this) (body_exprs (entry_at model n))) and_then ask (leb (backing_count (entry_at model n).this) 64) 11 (entry_at model n).place
       and_then ask (leb (3 * length (payouts (entry_at model n).this)) lent) 12 0 ≡ passes
   unfolding ask_entry
-  after-ninth = later-asked (ask (ltb n (length (entries model))) 9 0) _ e
+  after-ninth = later-asked (ask_exists model n) _ e
 
   after-tenth : ask (leb (backing_count (entry_at model n).this) 64) 11 (entry_at model n).place
       and_then ask (leb (3 * length (payouts (entry_at model n).this)) lent) 12 0 ≡ passes

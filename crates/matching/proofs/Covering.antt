@@ -6,8 +6,6 @@ use Rattle.matching.specs.Matching as matching
 use Rattle.matching.specs.Matching.Cover.{equal_debit, equal_parameter, bounding_debit, bounding_parameter, reserve}
 use Rattle.matching.specs.Matching.Reason.{split_without_amount, conflict_at_equal, amount_taken, conflict_at_bounding, no_reserve, reserve_used}
 use Rattle.matching.specs.Coded.{cover_of, reason_of, coded_cover, coded_reason, after_cover}
-use Rattle.matching.specs.declared.answer.Reason.{Reason}
-use Rattle.matching.specs.declared.answer.Reason.TheVariants.{SplitWithoutAmount, ConflictAtEqual, AmountTaken, ConflictAtBounding, NoReserve, ReserveUsed}
 use Rattle.matching.specs.declared.answer.Cover.{Cover}
 use Rattle.matching.specs.declared.answer.Cover.TheVariants.{EqualDebit, EqualParameter, BoundingDebit, BoundingParameter, Reserve}
 

@@ -1,9 +1,9 @@
 -- A "no" to one of questions 1 to 9 is the answer; past them it is the reserve of the payout, by its number.
-use Rattle.std.proofs.Common.{ℕ, ◌≤◌, ◌≡◌, refl, sym, ap, ◌∙◌, List, le-ltb, lt-ltb, length}
+use Rattle.std.proofs.Common.{ℕ, ◌≡◌, refl, sym, ap, ◌∙◌, List, le-ltb, lt-ltb, length}
 use mathlib.Core.Option.{Option, none, some}
 use Rattle.fields.specs.Field.{Fields, fields}
 use Rattle.model.specs.Model.{entries}
-use Rattle.questions.specs.Questions.{passes, ask_file}
+use Rattle.questions.specs.Questions.{ask_file}
 use Rattle.questions.specs.Answers.{asked}
 use Rattle.questions.specs.declared.check.Answer.{Answer}
 use Rattle.questions.specs.declared.check.Answer.TheVariants as question
@@ -13,7 +13,7 @@ use Rattle.reserves.specs.declared.covering.Reserve.{Reserve}
 use Rattle.reserves.specs.declared.covering.Reserve.TheVariants.{Covers, Nothing}
 use Rattle.claim.specs.Reserve.{payout_reserve}
 use Rattle.claim.specs.Verdict.{entry_at}
-use Rattle.claim.proofs.Fitting.{short-file}
+use Rattle.claim.proofs.Fitting.{answered-passes}
 use Rattle.verdict.specs.Place.{Found}
 use Rattle.verdict.specs.declared.entry.Place.{Place}
 use Rattle.verdict.specs.declared.entry.Place.TheVariants.{At, Nowhere}
@@ -59,15 +59,9 @@ module _ (file : List ℕ) (n k : ℕ) (s : Place) (e : Found file n s) where
 -- Questions 1 to 8
 
 module _ (file : List ℕ) (n k : ℕ) (a : Answer) (e : asked a ≡ ask_file file) where
-  passed : a ≡ question.Passes → ask_file file ≡ passes
-  passed h = sym e ∙ ap asked h
-
-  pub short : a ≡ question.Passes → length file ≤ 32768
-  short h = short-file file (passed h)
-
   past_file : a ≡ question.Passes → file_reserve file n k ≡ entry_reserve (fields file) n k
   unfolding file_reserve
-  past_file h = cc (passed h)
+  past_file h = cc (answered-passes file a e h)
 
   pub file-passed : a ≡ question.Passes → (r : CodedAnswer) → answer_of r ≡ entry_reserve (fields file) n k → answer_of r ≡ file_reserve file n k
   file-passed h r f = rw (past_file h) f

@@ -23,11 +23,10 @@ use Rattle.entries.proofs.Called.{where-counted, where-read, payouts-where}
 use Rattle.entries.proofs.Reading.{calls-fit, calls-part, calls-all, places-few, table-long, field-there}
 use Rattle.reserves.specs.Reserves.{reserve_covers, reserve_bounding_payout}
 use Rattle.reserves.specs.Candidates.{Candidates, candidate_numbers}
-use Rattle.reserves.specs.Covers.{index_in}
+use Rattle.reserves.specs.Covers.{index_in, asked_reserve}
 use Rattle.claim.specs.Claim.{payout_at}
 use Rattle.claim.specs.Reserve.{payout_reserve}
 use Rattle.verdict.proofs.Preparing.{numbers_fit, numbers-part, numbers-exact}
-use Rattle.payout_reserve.specs.Asked.{asked_reserve}
 
 -- Nothing is asked for
 
@@ -79,9 +78,9 @@ module _ (file : List ℕ) (place : ℕ) (small : length file ≤ 32768) where
     alone-listed = numbers-exact file place paid 1 one (replicate most_fields 0) last r p room
 
 pub alone-asked : (file payouts : List ℕ) (place k x : ℕ) → x ≡ get_or payouts k 0 → (r : Option ℕ) →
-    r ≡ index_in (fields file) (reserve_bounding_payout (fields file) (entry_of file place) (asked_amount file (set (replicate 65 0) 0 x) 0) (asked_token file (set (replicate 65 0) 0 x) 0)) →
+    r ≡ asked_reserve file place (set (replicate 65 0) 0 x) 0 →
     r ≡ asked_reserve file place payouts k
-unfolding asked_reserve asked_token asked_amount
+unfolding asked_token asked_amount
 alone-asked file payouts place k x e r f = rw (← e) f
 
 -- The payout at its place
@@ -110,5 +109,5 @@ module _ (file : List ℕ) (place : ℕ) (calls : List ℕ) (c : CallsOf file pl
   payout-among k h = omega (arith, h, table-long file table m (payouts entry) read counted)
 
   pub payout-found : (k : ℕ) → k < m → (r : Option ℕ) → r ≡ asked_reserve file place table k → r ≡ index_in model (payout_reserve model entry k)
-  unfolding payout_reserve asked_reserve asked_token asked_amount paid_at
+  unfolding payout_reserve asked_token asked_amount paid_at
   payout-found k h r j = j ∙ rw (field-there file table m (payouts entry) read counted k h)

@@ -1,12 +1,11 @@
 -- The answer about the state field that covers a payout by itself: questions 1 to 9 come first, as they do before
 -- a verdict.
-use Rattle.std.specs.Prelude.{ℕ, List, ltb, length}
+use Rattle.std.specs.Prelude.{ℕ, List}
 use Rattle.std.proofs.Math.Option.{Option, none, some}
 use Rattle.fields.specs.Field.{Fields, fields}
-use Rattle.model.specs.Model.{entries}
-use Rattle.questions.specs.Questions.{passes, fails, ask, ask_file}
+use Rattle.questions.specs.Questions.{passes, fails, ask_file}
 use Rattle.reserves.specs.Candidates.{state_index}
-use Rattle.claim.specs.Verdict.{entry_at}
+use Rattle.claim.specs.Verdict.{entry_at, ask_exists}
 use Rattle.claim.specs.Reserve.{payout_reserve}
 use Rattle.payout_reserve.specs.declared.ReserveAnswer.{ReserveAnswer as CodedAnswer}
 use Rattle.payout_reserve.specs.declared.ReserveAnswer.TheVariants as coded
@@ -25,7 +24,7 @@ covered_by model (some r) = covered (state_index model r)
 -- payout k of entry n, of a file that passes questions 1 to 8: question 9, and then the reserve; a payout that is not there has none
 unfoldable pub entry_reserve : Fields → (n k : ℕ) → ReserveAnswer
 entry_reserve model n k =
-    elim (ask (ltb n (length (entries model))) 9 0) [
+    elim (ask_exists model n) [
       | fails number place ↦ refused number place
       | passes ↦ covered_by model (payout_reserve model (entry_at model n).this k)
     ]

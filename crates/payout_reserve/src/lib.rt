@@ -5,11 +5,10 @@
 
 ghost use Rattle.std.specs.Prelude.{◌≡◌, ◌≤◌, ◌<◌, length};
 ghost use Rattle.fields.specs.Field.{fields};
-ghost use Rattle.reserves.specs.Covers.{index_of, index_in};
+ghost use Rattle.reserves.specs.Covers.{index_of, index_in, asked_reserve};
 ghost use Rattle.entries.specs.Entered.{entry_of, CallsOf};
 ghost use Rattle.claim.specs.Reserve.{payout_reserve};
 ghost use Rattle.payout_reserve.specs.Answer.{entry_reserve, file_reserve, answer_of};
-ghost use Rattle.payout_reserve.specs.Asked.{asked_reserve};
 
 use entries::calls::list_payouts;
 use entries::entry::Entry;

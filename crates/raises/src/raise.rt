@@ -1,5 +1,5 @@
 // SPDX-License-Identifier: Apache-2.0 OR MIT
-// The statements that raise a state field, and the entries that have one.
+// The statements that raise a state field, and whether an entry has one.
 ghost use Rattle.std.specs.Prelude.{◌≡◌, ◌≤◌, length};
 ghost use Rattle.laws.specs.Lists.{filter};
 ghost use Rattle.tags.specs.Tag.{Guard, ExpressionStatement};

@@ -9,7 +9,8 @@ use Rattle.tags.specs.Tag.{is_expression, is_statement, is_wrapper}
 use Rattle.fields.specs.Field.{fields, fields_to, nth, row, fields_from, size, sizes, placed, placed_from, place_of}
 use Rattle.fields.proofs.Writing.{write, name, type_name, integer, identifier}
 use Rattle.model.specs.Model.{genesis, entries, params, body}
-use Rattle.walking.specs.Walking.{peel, peel_first, peel_place, peel_first_place, walk, walk_parts, stmt_exprs, body_exprs, exprs, guards, ident, method, receiver, is_debit, asset_amount_backer, is_asset_parameter}
+use Rattle.walking.specs.Walking.{peel, peel_first, peel_place, peel_first_place, walk, walk_parts, stmt_exprs, body_exprs, exprs, guards, ident}
+use Rattle.walking.specs.Walking.{method, receiver, is_debit, asset_amount_backer, is_asset_parameter}
 use Rattle.walking.specs.Walking.{asset_params, debits}
 use Rattle.equality.specs.Equality.{expr_eq, parts_eq, strip, same_text}
 use Rattle.conditions.specs.Conditions.{split_and, split_each, split_first, negated, negated_each, negated_first, conditions_of, required_conditions, opposite, operator}

@@ -73,16 +73,21 @@ module _ (file : List ℕ) where
       go true = rw (ne_eqb (peel_place (length file) (g.place + 3) (part 0 g.this) + 2) 0 (λ z. omega (arith, z)))
       go false = refl
 
-  guards-tokens : (gs : List Placed) → Every (Stands file) gs →
-      map (token_of file) (filter (λ k. not (eqb k 0)) (map (guard_number file) gs)) ≡ filter known (map guard_token (map (part 0) (without_places gs)))
+  abbrev named : List Placed → List ℕ
+  named gs = filter (λ k. not (eqb k 0)) (map (guard_number file) gs)
+
+  abbrev tokens : List Placed → List (List ℕ)
+  tokens gs = filter known (map guard_token (map (part 0) (without_places gs)))
+
+  guards-tokens : (gs : List Placed) → Every (Stands file) gs → map (token_of file) (named gs) ≡ tokens gs
   unfolding filter
   guards-tokens [] e = refl
   guards-tokens (g ∷ gs) e = go (known (guard_token (part 0 g.this))) (guard-named g) (guards-tokens gs e.1)
     where
       go : (k : Bool) → not (eqb (guard_number file g) 0) ≡ k →
-          map (token_of file) (filter (λ k. not (eqb k 0)) (map (guard_number file) gs)) ≡ filter known (map guard_token (map (part 0) (without_places gs))) →
-          map (token_of file) (cond (not (eqb (guard_number file g) 0)) (guard_number file g ∷ filter (λ k. not (eqb k 0)) (map (guard_number file) gs)) (filter (λ k. not (eqb k 0)) (map (guard_number file) gs)))
-          ≡ cond k (guard_token (part 0 g.this) ∷ filter known (map guard_token (map (part 0) (without_places gs)))) (filter known (map guard_token (map (part 0) (without_places gs))))
+          map (token_of file) (named gs) ≡ tokens gs →
+          map (token_of file) (cond (not (eqb (guard_number file g) 0)) (guard_number file g ∷ named gs) (named gs))
+          ≡ cond k (guard_token (part 0 g.this) ∷ tokens gs) (tokens gs)
       go true d h = rw (d, guard-token g e.0, h)
       go false d h = rw (d, h)
 

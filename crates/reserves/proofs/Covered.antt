@@ -26,7 +26,7 @@ use Rattle.reserves.specs.Reserves.{reserve_covers, reserve_bounding_payout}
 use Rattle.reserves.specs.Candidates.{counts, state_index, candidate_numbers}
 use Rattle.guards.specs.Asked.{asked_token, asked_amount, asked_amounts, inflow_amounts}
 use Rattle.reserves.specs.Holding.{state_name, is_token, holds_token}
-use Rattle.reserves.specs.Covers.{index_in, amount_at, equal_from, first_covering}
+use Rattle.reserves.specs.Covers.{index_in, asked_reserve, amount_at, equal_from, first_covering}
 use Rattle.guards.proofs.Paid.{asked-among}
 use Rattle.guards.proofs.Lowerings.{lowers-same}
 use Rattle.reserves.proofs.Counting.{exact_at, candidates-read}
@@ -182,11 +182,7 @@ module _ (file : List ℕ) (place : ℕ) (asked : List ℕ) (k : ℕ) where
   abbrev covering : List ℕ → Bool
   covering r = reserve_covers (fields file) entry amount (asked_token file asked k) r
 
-  -- what is asked
-  abbrev pub bounding : Option ℕ
-  bounding = index_in (fields file) (reserve_bounding_payout (fields file) entry amount (asked_token file asked k))
-
-  pub none-contained : contains_inflow entry amount ≡ false → none ≡ bounding
+  pub none-contained : contains_inflow entry amount ≡ false → none ≡ asked_reserve file place asked k
   unfolding reserve_bounding_payout reserve_covers index_in
   none-contained i = rw (find_none covering (λ r. rw i) named)
 
@@ -211,7 +207,7 @@ module _ (file : List ℕ) (place : ℕ) (asked : List ℕ) (k : ℕ) where
         rw (candidates-read file small amounts place)
         (searched file asked k entry amount amounts own (place + 3) (parts entry) (parts-stand file (placed_at file place) refl))
 
-    pub all-contained : length file ≤ 32768 → first ≡ bounding
+    pub all-contained : length file ≤ 32768 → first ≡ asked_reserve file place asked k
     unfolding reserve_bounding_payout reserve_covers guarded_by guards is_token
     all-contained small =
         entry-searched small

@@ -1,5 +1,6 @@
 -- A table that is right stays right where a number that is right is written into it, and so it may be asked for the field.
-use Rattle.std.proofs.Common.{ℕ, ◌+◌, ◌≤◌, ◌<◌, ◌≡◌, refl, ◌∙◌, Bool, true, false, cond, List, arith, ltb-true, lt-ltb, le-ltb, ltb, length, get_or, set, replicate, length-set, get_or-set_other, drop-set-lt}
+use Rattle.std.proofs.Common.{ℕ, ◌+◌, ◌≤◌, ◌<◌, ◌≡◌, refl, ◌∙◌, Bool, true, false, cond, List, arith, ltb-true, lt-ltb, le-ltb, ltb}
+use Rattle.std.proofs.Common.{length, get_or, set, replicate, length-set, get_or-set_other, drop-set-lt}
 use lib.ListN.{length-replicate, get_or-replicate}
 use Rattle.laws.proofs.Tables.{written-or-kept}
 use Rattle.fields.specs.Field.{fields}

@@ -1,9 +1,13 @@
 -- The state field that covers a payout, by its number among all.
 use Rattle.std.specs.Prelude.{ℕ, Bool, cond, ◌&&◌, List, [], ◌∷◌, drop}
 use Rattle.std.proofs.Math.Option.{Option, none, some}
-use Rattle.fields.specs.Field.{Field, Fields, front, part}
+use Rattle.fields.specs.Field.{Field, Fields, fields, front, part}
 use Rattle.equality.specs.Equality.{expr_eq}
-use Rattle.guards.specs.Guards.{guarded_amount}
+use Rattle.entries.specs.Entered.{entry_of}
+use Rattle.guards.specs.Guards.{contains_inflow, guarded_amount}
+use Rattle.guards.specs.Asked.{asked_token, asked_amount}
+use Rattle.reserves.specs.Reserves.{reserve_bounding_payout}
+use Rattle.reserves.specs.Holding.{holds_token}
 use Rattle.reserves.specs.Candidates.{state_index}
 use Rattle.reserves.specs.declared.covering.Reserve.{Reserve}
 use Rattle.reserves.specs.declared.covering.Reserve.TheVariants.{Covers, Nothing}
@@ -17,6 +21,11 @@ index_of Nothing = none
 unfoldable pub index_in : Fields → Option (List ℕ) → Option ℕ
 index_in model none = none
 index_in model (some r) = some (state_index model r)
+
+-- of the one that covers payout k of a table, in the entry at a place
+abbrev pub asked_reserve : (file : List ℕ) (place : ℕ) (table : List ℕ) (k : ℕ) → Option ℕ
+asked_reserve file place table k =
+    index_in (fields file) (reserve_bounding_payout (fields file) (entry_of file place) (asked_amount file table k) (asked_token file table k))
 
 -- the amount of the guard that stands at a place
 unfoldable pub amount_at : List ℕ → ℕ → Field
@@ -33,3 +42,8 @@ unfoldable pub first_covering : List ℕ → Field → (ℕ → Bool) → List �
 first_covering file amount holds [] = none
 first_covering file amount holds (n ∷ []) = none
 first_covering file amount holds (n ∷ i ∷ l) = cond (expr_eq (amount_at file n) amount && holds i) (some i) (first_covering file amount holds l)
+
+-- that of payout k, where its amount contains what comes in with the entry at a place
+abbrev pub first_contained : (file : List ℕ) (place : ℕ) (table : List ℕ) (k : ℕ) → Field → List ℕ → Option ℕ
+first_contained file place table k amount l =
+    cond (contains_inflow (entry_of file place) amount) (first_covering file amount (holds_token file (asked_token file table k)) l) none

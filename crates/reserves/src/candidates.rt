@@ -1,5 +1,6 @@
 // SPDX-License-Identifier: Apache-2.0 OR MIT
-// The guards of an entry that can matter for one of its payouts: listed once, so that a payout takes time by their number. A payout's amount that equals a guard's is lowered exactly if the guard's is.
+// The guards of an entry that can matter for one of its payouts: listed once, so that a payout takes time by their number. A
+// payout's amount that equals a guard's is lowered exactly if the guard's is.
 ghost use Rattle.std.specs.Prelude.{◌≡◌, ◌*◌, ◌≤◌, length, drop};
 ghost use Rattle.fields.specs.Field.{fields, front};
 ghost use Rattle.fields.specs.Table.{Listed};

@@ -1,15 +1,11 @@
 // SPDX-License-Identifier: Apache-2.0 OR MIT
 // The state field that covers a payout.
-ghost use Rattle.std.specs.Prelude.{◌≡◌, cond, ◌&&◌, ◌+◌, ◌≤◌, ◌<◌, length, get_or, drop};
-ghost use Rattle.std.proofs.Math.Option.{none};
-ghost use Rattle.fields.specs.Field.{fields, front};
+ghost use Rattle.std.specs.Prelude.{◌≡◌, ◌&&◌, ◌+◌, ◌≤◌, ◌<◌, length, get_or, drop};
+ghost use Rattle.fields.specs.Field.{front};
 ghost use Rattle.equality.specs.Equality.{expr_eq};
-ghost use Rattle.reserves.specs.Reserves.{reserve_bounding_payout};
 ghost use Rattle.reserves.specs.Candidates.{Candidates};
-ghost use Rattle.guards.specs.Guards.{contains_inflow};
-ghost use Rattle.guards.specs.Asked.{asked_token, asked_amount};
 ghost use Rattle.reserves.specs.Holding.{holds_token, Facts, Known};
-ghost use Rattle.reserves.specs.Covers.{index_of, index_in, amount_at, equal_from, first_covering};
+ghost use Rattle.reserves.specs.Covers.{index_of, asked_reserve, amount_at, equal_from, first_covering, first_contained};
 
 use super::holding::holds_token;
 use entries::entry::Entry;
@@ -109,7 +105,7 @@ fn first_contained(
 ) -> Reserve
     requires known { Known file.now facts.old scratch.old }
     requires within { length amount.now ≤ length file.now }
-    ensures found { index_of result ≡ cond (contains_inflow (front (drop entry.place file.now)) (front amount.now)) (first_covering file.now (front amount.now) (holds_token file.now (asked_token file.now entry.paid k)) candidates.now) none }
+    ensures found { index_of result ≡ first_contained file.now entry.place entry.paid k (front amount.now) candidates.now }
     ensures facts { Facts file.now facts.new }
 {
     if !contains_inflow(skip(file, entry.place), amount, scratch) {
@@ -132,7 +128,7 @@ pub fn reserve_bounding_payout(
     requires known { Known file.now facts.old scratch.old }
     requires among { k < entry.payouts }
     requires listed { Candidates file.now entry.place entry.paid entry.payouts candidates.now (length candidates.now) }
-    ensures found { index_of result ≡ index_in (fields file.now) (reserve_bounding_payout (fields file.now) (front (drop entry.place file.now)) (asked_amount file.now entry.paid k) (asked_token file.now entry.paid k)) }
+    ensures found { index_of result ≡ asked_reserve file.now entry.place entry.paid k }
     ensures facts { Facts file.now facts.new }
 {
     let amount = asked_amount(file, &entry.paid, k);

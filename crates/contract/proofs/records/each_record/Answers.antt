@@ -1,15 +1,16 @@
 -- The record of the refusal, or those of all entries: either table has a number for each three bytes of the file.
-use Rattle.contract.proofs.Each.{asked-all, table-enough, refused-each}
+use Rattle.claim.proofs.Fitting.{answered-passes}
+use Rattle.contract.proofs.Each.{table-enough, refused-each}
 use Rattle.contract.proofs.records.each_record.Goals as goal
 
 pub returns-in-Refused : goal.returns-in-Refused
 returns-in-Refused c = search refused-each
 
 pub entry_records-requires-clause-passed : goal.entry_records-requires-clause-passed
-entry_records-requires-clause-passed c = search asked-all
+entry_records-requires-clause-passed c = search answered-passes
 
 pub entry_records-requires-2-clause-passed : goal.entry_records-requires-2-clause-passed
-entry_records-requires-2-clause-passed c = search asked-all
+entry_records-requires-2-clause-passed c = search answered-passes
 
 pub entry_records-requires-2-clause-table : goal.entry_records-requires-2-clause-table
 entry_records-requires-2-clause-table c = search table-enough

@@ -1,7 +1,7 @@
 -- A file that a question refuses has that verdict, and one that passes is short enough for its entries to be asked about.
-use Rattle.std.proofs.Common.{ℕ, ◌≤◌, ◌≡◌, sym, ap, ◌∙◌, List, length}
+use Rattle.std.proofs.Common.{ℕ, ◌≡◌, List, length}
 use Rattle.fields.specs.Field.{fields}
-use Rattle.questions.specs.Questions.{passes, ask_file}
+use Rattle.questions.specs.Questions.{ask_file}
 use Rattle.questions.specs.Answers.{asked}
 use Rattle.questions.specs.declared.check.Answer.{Answer}
 use Rattle.questions.specs.declared.check.Answer.TheVariants as question
@@ -9,20 +9,14 @@ use Rattle.claim.specs.Verdict.{refused, entry_at, entry_verdict, verdict, outco
 use Rattle.verdict.specs.Coded.{numbers_of, numbers}
 use Rattle.verdict.specs.declared.entry.Verdict.{Verdict as CodedVerdict}
 use Rattle.verdict.specs.declared.entry.Verdict.TheVariants.{Refused}
-use Rattle.claim.proofs.Fitting.{short-file}
+use Rattle.claim.proofs.Fitting.{answered-passes, answered-short}
 use Rattle.verdict.proofs.file.file_verdict.Goals as goal
 
 module _ (file : List ℕ) (a : Answer) (e : asked a ≡ ask_file file) where
-  passed : a ≡ question.Passes → ask_file file ≡ passes
-  passed h = sym e ∙ ap asked h
-
-  short : a ≡ question.Passes → length file ≤ 32768
-  short h = short-file file (passed h)
-
   module _ (h : a ≡ question.Passes) (n : ℕ) (lent : List ℕ) where
     same : verdict file n (length lent) ≡ entry_verdict (fields file) n (length lent)
     unfolding verdict
-    same = cc (passed h)
+    same = cc (answered-passes file a e h)
 
     told-passed : (x : CodedVerdict) → numbers_of x ≡ numbers (entry_at (fields file) n).this (entry_verdict (fields file) n (length lent)) →
         numbers_of x ≡ numbers (entry_at (fields file) n).this (verdict file n (length lent))
@@ -45,7 +39,7 @@ module _ (file : List ℕ) (a : Answer) (e : asked a ≡ ask_file file) where
     left-no = rw no
 
 pub entry_verdict-requires : goal.entry_verdict-requires
-entry_verdict-requires c = search short
+entry_verdict-requires c = search answered-short
 
 pub returns-in-Refused-clause-answer : goal.returns-in-Refused-clause-answer
 returns-in-Refused-clause-answer c = search told-no
