@@ -13,13 +13,10 @@ use Rattle.questions.specs.Answers.{asked as asked_by}
 use Rattle.questions.specs.declared.check.Answer.{Answer}
 use Rattle.questions.specs.declared.check.Answer.TheVariants.{Passes}
 use Rattle.walking.specs.Walking.{debits, asset_params, is_payout, body_exprs}
-use Rattle.matching.specs.Matching.{Cover, Marks, debit_backings, parameter_backings, answer}
-use Rattle.matching.specs.Matching.Answer.{cover}
-use Rattle.matching.proofs.Ways.{a-step}
-use Rattle.claim.specs.Verdict.{backing_count, entry_at, ask_exists, ask_entry, kind, index}
+use Rattle.matching.specs.Matching.{debit_backings, parameter_backings}
+use Rattle.claim.specs.Verdict.{backing_count, entry_at, ask_exists, ask_entry}
 use Rattle.claim.specs.Claim.{passes_at, backs_equal, backs_bounding, backs_reserve, backs}
 use Rattle.claim.proofs.Numbered.{at-below}
-use Rattle.claim.proofs.Backs.{Within, step-backs}
 
 -- n bytes have at most n fields in a row
 few-fields : (n : ℕ) (s : List ℕ) → length (row (fields_to n s)) ≤ n
@@ -96,13 +93,6 @@ module _ (file : List ℕ) (f : ask_file file ≡ passes) where
     pub index-fits : (p : Field) (k i : ℕ) → backs (fields file) (entry_at (fields file) n).this p k i ≡ true → i < 65536
     index-fits p k i h =
         omega (arith, backs-below (fields file) (entry_at (fields file) n).this p k i h, few-backings, few-states file, short-file)
-
-    -- so does the index of a cover as the pass gives it
-    pub answer-fits : (s : Marks) → Within (fields file) (entry_at (fields file) n).this s → (p : Field) (c : Cover) (t : Marks) →
-        answer (fields file) (entry_at (fields file) n).this s p ≡ cover c t → index c < 65536
-    answer-fits s w p c t e =
-        let entry = (entry_at (fields file) n).this in
-        index-fits p (kind c) (index c) (step-backs (fields file) entry s w p c t (a-step (fields file) entry s t p c e))
 
 -- by the answer that the code gives
 module _ (file : List ℕ) (a : Answer) (e : asked_by a ≡ ask_file file) (h : a ≡ Passes) where

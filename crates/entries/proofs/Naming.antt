@@ -4,7 +4,7 @@ use Rattle.std.proofs.Common.{ℕ, ◌+◌, ◌-◌, ◌^◌, ◌≤◌, ◌<◌
 use Rattle.std.proofs.Common.{drop, length-take, length-drop, take_at, length-take-le}
 use mathlib.Core.List.{flat_map}
 use lib.ListN.{length-map, get_or-append}
-use lib.Seq.{sets-eq, length-sets}
+use lib.Seq.{sets-eq}
 use Rattle.laws.specs.Lists.{filter}
 use Rattle.laws.proofs.Lists.{Every, every-filter, map_at}
 use Rattle.laws.proofs.Slices.{get_d-behind}
@@ -12,7 +12,7 @@ use Rattle.tags.specs.Tag.{Parameter}
 use Rattle.fields.specs.Table.{Listed}
 use Rattle.fields.specs.Field.{Placed, fields, length_of, whole, after, front, parts, placed, placed_from, from}
 use Rattle.fields.proofs.Rows.{after-size, rest_of, from-shorter, from-placed, rest-next, placed_row}
-use Rattle.fields.proofs.Tables.{listed-none, listed_then}
+use Rattle.fields.proofs.Tables.{listed-none, listed_then, listed-long}
 use Rattle.fields.proofs.Inside.{Stands, parts-stand}
 use Rattle.model.specs.Model.{name_of, params}
 use Rattle.walking.specs.Walking.{is_asset_parameter, asset_params}
@@ -95,7 +95,7 @@ module _ (s : List ℕ) (base n : ℕ) (table last t : List ℕ) (m : ℕ) (i : 
           start = i.start;
           within = omega (arith, i.within);
           few = omega (arith, i.few, p.count, one_at_most hit (base + (length s - length t)));
-          wide = rw p.kept (length-sets last m (cond hit ((base + (length s - length t)) ∷ []) [])) ∙ i.wide;
+          wide = listed-long p ∙ i.wide;
           left = λ v r q. i.left v r (next-listed v r q);
         }
 

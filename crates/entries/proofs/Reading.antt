@@ -10,7 +10,7 @@ use Rattle.fields.specs.Field.{Field, whole, length_of, front, nothing, parts, s
 use Rattle.fields.specs.Table.{Listed, fields_at}
 use Rattle.fields.proofs.Reading.{front-none}
 use Rattle.fields.proofs.Places.{front-size}
-use Rattle.fields.proofs.Tables.{listed-front}
+use Rattle.fields.proofs.Tables.{listed-front, listed-long}
 use Rattle.walking.specs.Walking.{body_exprs, is_payout, is_debit, asset_params}
 use Rattle.walking.specs.Table.{placed_at, places_of}
 use Rattle.walking.proofs.Callers.{body-few}
@@ -97,7 +97,7 @@ module _ (file : List ℕ) (place : ℕ) (calls : List ℕ) (c : CallsOf file pl
 
       room : k ≤ 64 → r + length (asset_params (entry_of file place)) ≤ length table
       room h =
-          let w : length table ≡ 64 = rw l.kept (length-sets (replicate 64 0) 0 (places_where file is_debit calls) ∙ wide) in
+          let w : length table ≡ 64 = listed-long l ∙ wide in
           omega (arith, w, h, parameters-counted)
 
       pub backings-read : BackedOf file place (record { debits = r; total = k; places = last })

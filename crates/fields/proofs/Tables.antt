@@ -1,7 +1,7 @@
 -- Writing into a table: what is written first and what is written then is written.
 use Rattle.std.proofs.Common.{ℕ, ◌+◌, ◌≤◌, ◌<◌, ◌≡◌, refl, sym, ◌∙◌, Bool, true, false, not, cond, List, [], ◌∷◌, ◌++◌, arith, length, set, take, drop, length-append, take_at}
 use borrow.Author.Tests.{not-true, not-false}
-use lib.Seq.{set_out, sets-eq}
+use lib.Seq.{set_out, sets-eq, length-sets}
 use Rattle.laws.proofs.Tables.{sets-append}
 use Rattle.fields.specs.Table.{Listed}
 
@@ -26,6 +26,10 @@ listed_then ks js t u v n m r p q =
       count = rw length-append (omega (arith, p.count, q.count));
       kept = q.kept ∙ rw (p.kept, p.count) (sets-append ks js t n);
     }
+
+-- a table stays as long as it was
+pub listed-long : {ks t u : List ℕ} {n r : ℕ} → Listed ks t n u r → length u ≡ length t
+listed-long {ks} {t} {u} {n} p = rw (p.kept, length-sets t n ks)
 
 -- a table that has room for all holds them in front, and behind them what it held before
 module _ (ks t u : List ℕ) (r : ℕ) (p : Listed ks t 0 u r) (h : r ≤ length t) where

@@ -2,13 +2,12 @@
 -- them, since each call takes three bytes at least.
 use Rattle.std.proofs.Common.{ℕ, ◌+◌, ◌-◌, ◌*◌, ◌≤◌, ◌≡◌, refl, ◌∙◌, Bool, true, false, cond, List, [], ◌∷◌, ◌++◌, arith, length, drop}
 use mathlib.Core.List.{flat_map}
-use lib.Seq.{length-sets}
 use Rattle.tags.specs.Tag.{Entry}
 use Rattle.fields.specs.Table.{Listed}
 use Rattle.fields.specs.Field.{Field, Placed, length_of, whole, after, front, size, from}
 use Rattle.fields.proofs.Places.{front-size}
 use Rattle.fields.proofs.Rows.{after-size, rest_of, from-shorter, from-placed, rest-next}
-use Rattle.fields.proofs.Tables.{listed-none, listed_then}
+use Rattle.fields.proofs.Tables.{listed-none, listed_then, listed-long}
 use Rattle.model.specs.Model.{entries}
 use Rattle.walking.specs.Walking.{body_exprs}
 use Rattle.walking.specs.Table.{placed_at}
@@ -86,6 +85,6 @@ module _ (file table last t : List ℕ) (m : ℕ) (i : Entering file table last 
           tail = tail-next Entry Entry file t y j i.tail a b;
           within = omega (arith, i.within);
           few = omega (arith, i.few, listed_here.count, entry-few file here, front-size t w);
-          wide = rw p.kept (length-sets last m (fundings_of file (placed_at file (length file - length t)))) ∙ i.wide;
+          wide = listed-long p ∙ i.wide;
           left = λ v r q. i.left v r (next-listed v r q);
         }

@@ -16,7 +16,7 @@ use Rattle.fields.specs.Field.{Field, Placed, length_of, whole, front, part, siz
 use Rattle.fields.proofs.Reading.{front-none}
 use Rattle.fields.proofs.Places.{front-size}
 use Rattle.fields.proofs.Inside.{Stands}
-use Rattle.fields.proofs.Tables.{listed-none, listed_then, listed-front}
+use Rattle.fields.proofs.Tables.{listed-none, listed_then, listed-front, listed-long}
 use Rattle.walking.specs.Walking.{method, body_exprs, peel, asset_amount_backer, asset_params}
 use Rattle.walking.specs.Table.{most_fields, placed_at, of_tag, places_of}
 use Rattle.walking.proofs.Calls.{is_call}
@@ -116,7 +116,7 @@ module _ (file : List ℕ) (entry : Field) (calls : List ℕ) (number : ℕ) (ta
     filling-on k e u j p = record {
       within = omega arith;
       few = omega (arith, f.few, p.count, two-at-most file entry number k);
-      wide = rw p.kept (length-sets last m (numbers_at file entry number k)) ∙ f.wide;
+      wide = listed-long p ∙ f.wide;
       left = λ v r q. f.left v r (rw (drop-step calls i h, ← e) (listed_then _ _ last u v m j r p q));
     }
 

@@ -8,7 +8,7 @@ use Rattle.fields.proofs.Rows.{rest_of, from-shorter, from_less, from-placed, re
 use Rattle.fields.proofs.Tails.{tail-first, tail-next}
 use Rattle.model.specs.Model.{entries}
 use Rattle.walking.specs.Table.{placed_at}
-use Rattle.tokens.specs.Numbers.{joined, joined_all, tokens_number, Standing}
+use Rattle.tokens.specs.Numbers.{joined, joined_all, tokens_number}
 use Rattle.tokens.proofs.Joining.{all-several}
 use Rattle.fundings.specs.FundingTokens.{funds}
 use Rattle.fundings.specs.Fundings.{funding_number}
@@ -49,9 +49,6 @@ module _ (file m : List ℕ) (found : ℕ) (t : List ℕ) (i : Ledger file m fou
   pub ledger-done : whole t ≡ false → found ≡ funding_number file m
   unfolding filter joined_all
   ledger-done w = rw w at i.left
-
-  pub ledger-here : length file ≤ 32768 → Standing file (length file - length t) 0
-  ledger-here h = record { short = h; within = omega arith; few = omega arith }
 
   abbrev behind : List Placed
   behind = placed_from Entry Entry (0 + (length file - length (after t))) (fields (after t))

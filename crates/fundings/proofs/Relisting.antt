@@ -2,10 +2,9 @@
 use Rattle.std.proofs.Common.{ℕ, ◌+◌, ◌-◌, ◌≤◌, ◌<◌, ◌≡◌, refl, sym, ◌∙◌, Bool, true, false, List, ◌++◌, append-nil, arith, ltb-true, ltb, length, get_or, take, drop, set, length-append}
 use Rattle.std.proofs.Common.{length-drop, length-set, drop_of_length-le, get_or-take, get_or-set_same, get_or-set_other, drop-set-lt, drop_at, length-take-le}
 use lib.ListN.{get_or-append}
-use lib.Seq.{length-sets}
 use Rattle.laws.proofs.Slices.{drop-rest}
 use Rattle.fields.specs.Table.{Listed}
-use Rattle.fields.proofs.Tables.{listed-front}
+use Rattle.fields.proofs.Tables.{listed-front, listed-long}
 use Rattle.tokens.specs.Numbers.{not_yet}
 use Rattle.fundings.specs.Fundings.{fundings}
 use Rattle.fundings.specs.Funded.{Funded, Relisted, remembered_at, state_fields, listed_from, listed_room, facts_size}
@@ -27,7 +26,7 @@ module _ (file facts : List ℕ) (w : Funded file facts) (u : List ℕ) (r : ℕ
   front_long = length-take-le listed_from facts (omega (arith, w.long))
 
   length-lent : length u ≡ length (take (length facts - listed_from) (drop listed_from facts))
-  length-lent = rw l.kept (length-sets (take (length facts - listed_from) (drop listed_from facts)) 0 (fundings file))
+  length-lent = listed-long l
 
   wide : length u ≡ listed_room
   wide = length-lent ∙ rw (drop-rest facts listed_from, length-drop) (omega (arith, w.long))

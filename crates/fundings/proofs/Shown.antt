@@ -1,5 +1,5 @@
 -- The token that funds a map is that of its number, and shows the bytes where the number says that it stands.
-use Rattle.std.proofs.Common.{ℕ, ◌≤◌, ◌<◌, ◌≡◌, refl, ◌∙◌, Bool, true, false, cond, List, [], ◌∷◌, length}
+use Rattle.std.proofs.Common.{ℕ, ◌≡◌, refl, ◌∙◌, Bool, true, false, cond, List, [], ◌∷◌, length}
 use mathlib.Core.List.{flat_map}
 use lib.Seq.{take-length}
 use Rattle.laws.specs.Lists.{filter}
@@ -12,7 +12,7 @@ use Rattle.walking.specs.Walking.{without_places}
 use Rattle.tokens.specs.Tokens.{tokens_named}
 use Rattle.tokens.specs.Numbers.{token_of, tokens_number}
 use Rattle.tokens.specs.Place.{token_place}
-use Rattle.tokens.proofs.Joining.{Means, means-all, means-token, means-small}
+use Rattle.tokens.proofs.Joining.{Means, means-all, means-token}
 use Rattle.tokens.proofs.Numbers.{entry-means}
 use Rattle.tokens.proofs.Shown.{Shows, token-shows}
 use Rattle.fundings.specs.FundingTokens.{funds, ledger_funding_tokens, funding_token}
@@ -57,9 +57,6 @@ module _ (file m : List ℕ) where
   pub funding-token : token_of file (funding_number file m) ≡ funding_token (fields file) m
   unfolding funding_token
   funding-token = means-token file (funding_number file m) (ledger_funding_tokens (fields file) m) funding-means
-
-  pub funding-small : length file ≤ 32768 → funding_number file m < 65536
-  funding-small h = means-small file h (funding_number file m) (ledger_funding_tokens (fields file) m) funding-means
 
   -- so a part that reads as what the number stands for is the token, and shows it there
   module _ (k : ℕ) (e : k ≡ funding_number file m) (r : List ℕ) (f : r ≡ token_of file k) where

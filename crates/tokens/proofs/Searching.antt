@@ -2,12 +2,12 @@
 -- that differ stay so.
 use Rattle.std.proofs.Common.{ℕ, ◌+◌, ◌-◌, ◌*◌, ◌≤◌, ◌≡◌, refl, sym, ◌∙◌, true, false, List, ◌∷◌, map, arith, leb-true, length, take, drop, length-take, length-drop}
 use mathlib.Core.List.{flat_map, map-append}
-use lib.Seq.{length-sets}
 use Rattle.laws.proofs.Lists.{Every, every-filter}
 use Rattle.tags.specs.Tag.{Limits, Denies, Guard, between}
-use Rattle.fields.specs.Table.{Listed, Room}
+use Rattle.fields.specs.Table.{Listed}
 use Rattle.fields.specs.Field.{fields, length_of, whole, after, front, tag, parts, sizes, from, placed, placed_from}
 use Rattle.fields.proofs.Inside.{Stands, parts-stand}
+use Rattle.fields.proofs.Tables.{listed-long}
 use Rattle.fields.proofs.Rows.{rest_of, from-shorter, from_less, from-placed, rest-next}
 use Rattle.walking.specs.Table.{placed_at}
 use Rattle.conditions.specs.Conditions.{Condition, conditions_of, conditions_from, required_conditions}
@@ -48,21 +48,10 @@ module _ (file : List ℕ) (n : ℕ) (s : List ℕ) (e : s ≡ drop n file) (low
     left = rw (h, ← from-placed low high p 3, f, ← e);
   }
 
--- listing leaves a table as long as it was
-pub listed-wide : {cs : List ℕ} (before table : List ℕ) (count : ℕ) (lent : List ℕ) → length before ≡ length lent → Listed cs before 0 table count →
-    length table ≡ length lent
-listed-wide {cs} before table count lent e l = rw l.kept (length-sets before 0 cs) ∙ e
-
 module _ (file : List ℕ) (n low high : ℕ) (p t : List ℕ) (found r : ℕ) (i : Searching file n low high p t found r) where
   pub searching-done : whole t ≡ false → found ≡ r
   unfolding flat_map joined_all
   searching-done w = rw w at i.left
-
-  pub searching-room : length file ≤ 32768 → Room t (place_in p t) 0
-  searching-room h = record {
-    place = omega (arith, i.within, i.short, length-drop n file);
-    count = omega (arith, i.within, i.short, length-drop n file);
-  }
 
   module _ (w : whole t ≡ true) where
     both-stand : Every (Stands (drop n file)) (record { place = place_in p t; this = front t } ∷ placed_from low high (3 + (length p - length (after t))) (fields (after t)))
@@ -77,7 +66,7 @@ module _ (file : List ℕ) (n low high : ℕ) (p t : List ℕ) (found r : ℕ) (
         let b : place_in p t + length t ≤ length (drop n file) = omega (arith, i.within, i.short, leb-true (3 + length_of t) (length t) w) in
         let m : count ≤ length before =
         table-wide (drop n file) (place_in p t) t both-stand.0 w b before table count l (omega (arith, d)) in
-        joining-from file n s e table count (conditions_at t (place_in p t)) (omega (arith, listed-wide before table count lent z l))
+        joining-from file n s e table count (conditions_at t (place_in p t)) (omega (arith, listed-long l))
         (table-read (drop n file) (place_in p t) t both-stand.0 w b before table count l (omega (arith, d)) m) found
 
     -- then those behind it are left

@@ -1,9 +1,10 @@
 -- Clause by clause or guard by guard, and in each condition by condition, the set found so far and what is left have the number
 -- of all.
-use Rattle.std.proofs.Common.{rules}
+use Rattle.std.proofs.Common.{◌∙◌, rules}
 use Rattle.laws.proofs.Told.{told}
+use Rattle.fields.proofs.Tables.{listed-long}
 use Rattle.tokens.proofs.Numbers.{joining-on, joining-done, joining-several}
-use Rattle.tokens.proofs.Searching.{searching-all, searching-done, searching-here, searching-on, searching-several, listed-wide}
+use Rattle.tokens.proofs.Searching.{searching-all, searching-done, searching-here, searching-on, searching-several}
 use Rattle.tokens.proofs.number.joined_from.Goals as goal
 
 pub search-init : goal.search-init
@@ -17,7 +18,7 @@ pub loop-i-preserved : goal.loop-i-preserved
 loop-i-preserved c = search joining-on
 
 pub search-preserved : goal.search-preserved
-search-preserved c = (search (searching-on, joining-done, told), listed-wide _ _ _ _ c.search.invariant.1 c.list_conditions-count.ensures)
+search-preserved c = (search (searching-on, joining-done, told), listed-long c.list_conditions-count.ensures ∙ c.search.invariant.1)
 
 pub returns-then-not-is_whole : goal.returns-then-not-is_whole
 returns-then-not-is_whole c = search (searching-done, told)
