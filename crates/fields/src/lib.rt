@@ -3,4 +3,5 @@
 
 pub mod bytes;
 pub mod front;
+pub mod number;
 pub mod table;

@@ -1,0 +1,15 @@
+-- A number made of a text's bytes.
+use Rattle.std.specs.Prelude.{ℕ, ◌+◌, ◌*◌, ◌/◌, ◌%◌, List, [], ◌∷◌}
+
+-- behind bytes with the number n
+unfoldable pub number_from : (base n : ℕ) → List ℕ → ℕ
+number_from base n [] = n
+number_from base n (x ∷ xs) = number_from base ((n + x) * base % 4294967296) xs
+
+-- of a whole text
+abbrev pub text_number : (base : ℕ) → List ℕ → ℕ
+text_number base s = number_from base 0 s
+
+-- its upper half in one base, which has two bytes
+abbrev pub short_number : List ℕ → ℕ
+short_number s = text_number 1640531527 s / 65536

@@ -1,0 +1,26 @@
+// A number made of a text's bytes: equal texts have equal numbers, and texts whose numbers differ need not be compared.
+ghost use Rattle.std.specs.Prelude.{◌≡◌, ◌<◌};
+ghost use Rattle.fields.specs.Number.{text_number, short_number};
+
+// The number of a text in an odd base, below 2 to the 32nd. Its upper bits differ also where only the last bytes do.
+pub fn text_number(s: &[u8], base: usize) -> usize
+    requires { base < 2147483648 }
+    ensures same { result ≡ text_number base s.now }
+    ensures small { result < 4294967296 }
+{
+    let mut number = 0;
+    let mut i = 0;
+    while i < s.len() {
+        number = (number + s[i] as usize) * base % 4294967296;
+        i += 1;
+    }
+    number
+}
+
+// The upper half of its number in one base: two bytes.
+pub fn short_number(s: &[u8]) -> usize
+    ensures same { result ≡ short_number s.now }
+    ensures small { result < 65536 }
+{
+    text_number(s, 1640531527) / 65536
+}
