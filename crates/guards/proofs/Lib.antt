@@ -1,4 +1,3 @@
 pub mod Members
 pub mod Paid
-pub mod Asking
 pub mod Lowerings

@@ -1,6 +1,6 @@
--- A statement that lowers a field by an amount has the field as its target, so where the amount is asked for, it is one of the
--- lowerings. Each takes nine bytes at least, so that a table with a number for each three bytes of the file has room for all.
-use Rattle.std.proofs.Common.{ℕ, ◌+◌, ◌*◌, ◌%◌, ◌≤◌, ◌<◌, ◌≡◌, refl, sym, ◌∙◌, Bool, true, false, cond, not, ◌&&◌, List, [], ◌∷◌, ◌++◌, map, arith, mod-eq_of_lt, leb-true, le-leb, eqb, leb}
+-- A statement that lowers a field by an amount has the field as its target, so it is among those that are listed for the amount, by
+-- its target's name. Each takes nine bytes at least.
+use Rattle.std.proofs.Common.{ℕ, ◌+◌, ◌*◌, ◌%◌, ◌≤◌, ◌<◌, ◌≡◌, refl, sym, ◌∙◌, Bool, true, false, cond, not, ◌&&◌, ◌||◌, List, [], ◌∷◌, ◌++◌, arith, mod-eq_of_lt, eq-eqb, leb-true, le-leb, eqb, leb}
 use Rattle.std.proofs.Common.{length, take, drop, length-append, length-drop, length-take-le}
 use mathlib.Core.Bool.{and-false}
 use mathlib.Core.List.{flat_map}
@@ -9,10 +9,11 @@ use Rattle.laws.proofs.Truths.{chosen, and_left, and_right}
 use Rattle.laws.proofs.Texts.{bytes-equal}
 use Rattle.laws.specs.Texts.{same_bytes}
 use Rattle.laws.specs.Lists.{any, filter}
-use Rattle.laws.proofs.Lists.{any_none, any_same, any-filter, Every, filter-first}
+use Rattle.laws.proofs.Lists.{any-first, Every}
 use Rattle.tags.specs.Tag.{Guard, Set, SubtractFrom, ExpressionStatement, Sub, between, is_assign, is_wrapper}
-use Rattle.fields.specs.Table.{Listed, fields_at}
-use Rattle.fields.specs.Field.{Field, Fields, Placed, fields, length_of, whole, front, tag, parts, part, nth, nothing, size, sizes, row, fields_from, placed}
+use Rattle.fields.specs.Table.{Listed}
+use Rattle.fields.specs.Number.{short_number}
+use Rattle.fields.specs.Field.{Field, Fields, Placed, length_of, whole, front, tag, parts, part, nth, nothing, size, sizes, row, fields_from, placed}
 use Rattle.fields.specs.Field.Field.{field}
 use Rattle.fields.specs.Field.Fields.{end, next}
 use Rattle.fields.proofs.Reading.{front-none}
@@ -21,58 +22,59 @@ use Rattle.fields.proofs.Inside.{Stands, parts-stand}
 use Rattle.fields.proofs.Tables.{listed-front}
 use Rattle.fields.proofs.Listing.{Row}
 use Rattle.model.specs.Model.{body}
-use Rattle.walking.specs.Walking.{peel, peel_first, ident}
+use Rattle.walking.specs.Walking.{peel, peel_first}
 use Rattle.walking.specs.Table.{placed_at}
 use Rattle.equality.specs.Equality.{expr_eq}
-use Rattle.equality.proofs.Equality.{expr-symmetric, expr-transitive, nothing_left}
+use Rattle.equality.proofs.Equality.{nothing_left}
 use Rattle.raises.specs.Raises.{assigns, value, sets_from}
 use Rattle.guards.specs.Guards.{contains_wrapping, lowered_by, lowers}
-use Rattle.guards.specs.Lowerings.{is_lowering, lowerings, may_lower, lowering_at, lowering_places}
+use Rattle.guards.specs.Lowerings.{target, is_lowering, lowering_at, lowering_numbers, lowered_in}
 
--- Equal amounts are lowered by the same assignments
+-- What lowers r by the amount is a lowering of the amount whose target is r
 
-equal-same : (x a b : Field) → expr_eq a b ≡ true → expr_eq x a ≡ expr_eq x b
-equal-same x a b e = go (expr_eq x a) (expr_eq x b) refl refl
-  where
-    go : (i j : Bool) → expr_eq x a ≡ i → expr_eq x b ≡ j → expr_eq x a ≡ expr_eq x b
-    go true j p q = p ∙ sym (expr-transitive x a b p e)
-    go false true p q = expr-transitive x b a q (sym (expr-symmetric a b) ∙ e) ∙ sym q
-    go false false p q = p ∙ sym q
-
-pub lowers-same : (a b : Field) → expr_eq a b ≡ true → (r : List ℕ) (s : Field) → lowers a r s ≡ lowers b r s
-unfolding lowers
-lowers-same a b e r s = rw (equal-same (lowered_by r s) a b e)
-
--- What lowers a field by an amount that is asked for is a lowering
-
-module _ (amounts : List Field) (amount : Field) (asked : any (expr_eq amount) amounts ≡ true) (r : List ℕ) where
-  equal-asked : (f : Field) → expr_eq f amount ≡ true → any (expr_eq f) amounts ≡ true
-  equal-asked f e =
-      any_same (expr_eq f) (expr_eq amount) (λ x. expr-symmetric f x ∙ equal-same x f amount e ∙ expr-symmetric x amount) amounts ∙ asked
-
-  lowers-by : (s : Field) → is_lowering amounts s && may_lower amount r s ≡ lowers amount r s
-  unfolding is_lowering may_lower lowers assigns
-  lowers-by s = go (is_assign (tag s)) (same_bytes (ident (part 0 s)) r) (expr_eq (lowered_by r s) amount) refl refl refl
+module _ (amount : Field) (r : List ℕ) where
+  lowers-by : (s : Field) → is_lowering amount s && same_bytes (target s) r ≡ lowers amount r s
+  unfolding is_lowering lowers assigns
+  lowers-by s = go (is_assign (tag s)) (same_bytes (target s) r) refl refl
     where
       w : Bool
       w = not (contains_wrapping (part 1 s))
 
-      go : (i j k : Bool) → is_assign (tag s) ≡ i → same_bytes (ident (part 0 s)) r ≡ j → expr_eq (lowered_by r s) amount ≡ k →
-          is_lowering amounts s && may_lower amount r s ≡ lowers amount r s
-      go false j k e f g = rw e
-      go true false k e f g = rw (f, and-false (is_assign (tag s))) (and-false (is_lowering amounts s))
-      go true true false e f g = rw (g, and-false (assigns r s)) (and-false (is_lowering amounts s) ∙ sym (and-false (assigns r s && w)))
-      go true true true e f g = rw (f, e, g, bytes-equal (ident (part 0 s)) r f, equal-asked (lowered_by r s) g)
+      order : (j k : Bool) → j && k ≡ k && j
+      order true k = sym (order-true k)
+        where
+          order-true : (k : Bool) → k && true ≡ k
+          order-true true = refl
+          order-true false = refl
+      order false k = sym (and-false k)
 
-  pub lowerings-decide : (entry : Field) → any (may_lower amount r) (lowerings amounts entry) ≡ any (lowers amount r) (body entry)
-  unfolding lowerings
-  lowerings-decide entry =
-      any-filter (may_lower amount r) (is_lowering amounts) (body entry)
-      ∙ any_same (λ s. is_lowering amounts s && may_lower amount r s) (lowers amount r) lowers-by (body entry)
+      go : (i j : Bool) → is_assign (tag s) ≡ i → same_bytes (target s) r ≡ j → is_lowering amount s && same_bytes (target s) r ≡ lowers amount r s
+      go false j e f = rw e
+      go true false e f = rw (f, and-false (is_assign (tag s))) (and-false (is_lowering amount s))
+      go true true e f = rw (f, e, bytes-equal (target s) r f) (order _ true ∙ order (expr_eq (lowered_by r s) amount) w)
+
+  statement-tag : (t : ℕ) → is_assign t ≡ true → between Guard ExpressionStatement t ≡ true
+  unfolding is_assign
+  statement-tag t h =
+      let a : Set ≤ t = leb-true Set t (and_left (leb Set t) (leb t SubtractFrom) h) in
+      let b : t ≤ SubtractFrom = leb-true t SubtractFrom (and_right (leb Set t) (leb t SubtractFrom) h) in
+      rw (le-leb Guard t (omega arith), le-leb t ExpressionStatement (omega arith))
+
+  lowers-statement : (s : Field) → lowers amount r s ≡ true → between Guard ExpressionStatement (tag s) ≡ true
+  unfolding lowers assigns
+  lowers-statement s h =
+      let w : Bool = not (contains_wrapping (part 1 s)) in
+      let e : Bool = expr_eq (lowered_by r s) amount in
+      statement-tag (tag s) (and_left (is_assign (tag s)) (same_bytes (target s) r) (and_left (assigns r s) w (and_left (assigns r s && w) e h)))
+
+  -- so the parts of an entry that are no statements may be asked too
+  any-lowers : (entry : Field) → any (lowers amount r) (row (parts entry)) ≡ any (lowers amount r) (body entry)
+  unfolding body fields_from
+  any-lowers entry = sym (any-first (lowers amount r) (λ f. between Guard ExpressionStatement (tag f)) lowers-statement (row (parts entry)))
 
 -- An assignment has a target and a value
 
-module _ (s : Field) (e : part 1 s ≡ nothing) where
+module _ (amount s : Field) (e : part 1 s ≡ nothing) where
   no_value : value s ≡ nothing
   unfolding value peel peel_first is_wrapper
   no_value = rw e
@@ -83,132 +85,116 @@ module _ (s : Field) (e : part 1 s ≡ nothing) where
       let v : peel (part 1 (value s)) ≡ nothing = rw no_value in
       chosen (λ f. f ≡ nothing) (eqb (tag s) SubtractFrom) no_value (chosen (λ f. f ≡ nothing) (sets_from Sub r s) v refl)
 
-  no-lowering : (amounts : List Field) → is_lowering amounts s ≡ false
+  no-lowering : is_lowering amount s ≡ false
   unfolding is_lowering
-  no-lowering amounts = rw (lowers-nothing (ident (part 0 s)), any_none (expr_eq nothing) nothing_left amounts, and-false (is_assign (tag s)))
+  no-lowering = rw (lowers-nothing (target s), nothing_left amount, and-false (is_assign (tag s)))
 
-lowering-size : (amounts : List Field) (s : Field) → is_lowering amounts s ≡ true → 9 ≤ size s
-unfolding nth size sizes
-lowering-size amounts (field t x (end r)) h = leb-true 9 (size (field t x (end r))) (cc (no-lowering (field t x (end r)) refl amounts))
-lowering-size amounts (field t x (next f (end r))) h = leb-true 9 (size (field t x (next f (end r)))) (cc (no-lowering (field t x (next f (end r))) refl amounts))
-lowering-size amounts (field t x (next f (next g gs))) h = omega (arith, size-least f, size-least g)
+module _ (amount : Field) where
+  pub lowering-size : (s : Field) → is_lowering amount s ≡ true → 9 ≤ size s
+  unfolding nth size sizes
+  lowering-size (field t x (end r)) h = leb-true 9 (size (field t x (end r))) (cc (no-lowering amount (field t x (end r)) refl))
+  lowering-size (field t x (next f (end r))) h = leb-true 9 (size (field t x (next f (end r)))) (cc (no-lowering amount (field t x (next f (end r))) refl))
+  lowering-size (field t x (next f (next g gs))) h = omega (arith, size-least f, size-least g)
+
+  one-few : (p : Placed) → 9 * length (lowering_at amount p) ≤ 2 * size p.this
+  unfolding lowering_at
+  one-few p = go (is_lowering amount p.this) refl
+    where
+      go : (k : Bool) → is_lowering amount p.this ≡ k → 9 * length (cond k (short_number (target p.this) ∷ p.place % 65536 ∷ []) []) ≤ 2 * size p.this
+      go true e = omega (arith, lowering-size p.this e)
+      go false e = omega arith
+
+  many-few : (n : ℕ) (fs : Fields) → 9 * length (flat_map (lowering_at amount) (placed n fs)) ≤ 2 * sizes fs
+  unfolding flat_map placed sizes
+  many-few n (end r) = omega arith
+  many-few n (next f fs) =
+      rw (length-append (lowering_at amount (record { place = n; this = f })) (flat_map (lowering_at amount) (placed (n + size f) fs)))
+      (omega (arith, one-few (record { place = n; this = f }), many-few (n + size f) fs))
 
 -- Along the parts of an entry
 
 -- what is written of a part, and of a row of them
-abbrev pub one_of : List Field → ℕ → Fields → List ℕ
-one_of amounts n fs = lowering_at amounts (record { place = n; this = nth 0 fs })
+abbrev pub one_of : Field → ℕ → Fields → List ℕ
+one_of amount n fs = lowering_at amount (record { place = n; this = nth 0 fs })
 
-abbrev pub many_of : List Field → ℕ → Fields → List ℕ
-many_of amounts n fs = flat_map (lowering_at amounts) (placed n fs)
+abbrev pub many_of : Field → ℕ → Fields → List ℕ
+many_of amount n fs = flat_map (lowering_at amount) (placed n fs)
 
-one-few : (amounts : List Field) (p : Placed) → 9 * length (lowering_at amounts p) ≤ size p.this
-unfolding lowering_at
-one-few amounts p = go (is_lowering amounts p.this) refl
-  where
-    go : (k : Bool) → is_lowering amounts p.this ≡ k → 9 * length (cond k (p.place % 65536 ∷ []) []) ≤ size p.this
-    go true e = omega (arith, lowering-size amounts p.this e)
-    go false e = omega arith
-
-pub lowering-row : (amounts : List Field) → Row (one_of amounts) (many_of amounts)
+pub lowering-row : (amount : Field) → Row (one_of amount) (many_of amount)
 unfolding flat_map placed nth
-lowering-row amounts = record {
+lowering-row amount = record {
   none = λ n r. refl;
   more = λ n f fs. refl;
-  few = λ n f fs. omega (arith, one-few amounts (record { place = n; this = f }));
+  few = λ n f fs. omega (arith, one-few amount (record { place = n; this = f }), size-least f);
 }
 
-pub lowering-noted : (amounts : List Field) (t : List ℕ) (b : Bool) → b ≡ is_lowering amounts (front t) → (at : ℕ) (table : List ℕ) (n : ℕ) (last : List ℕ) (m : ℕ) →
-    Listed (cond b (at % 65536 ∷ []) []) table n last m → Listed (one_of amounts at (fields t)) table n last m
-unfolding lowering_at
-lowering-noted amounts t b e at table n last m l = rw (← e) l
+-- The entry at a place of the file
 
--- How many there are, and what stands there
-
-many-few : (amounts : List Field) (n : ℕ) (fs : Fields) → 9 * length (many_of amounts n fs) ≤ sizes fs
-unfolding flat_map placed sizes
-many-few amounts n (end r) = omega arith
-many-few amounts n (next f fs) =
-    rw (length-append (lowering_at amounts (record { place = n; this = f })) (many_of amounts (n + size f) fs))
-    (omega (arith, one-few amounts (record { place = n; this = f }), many-few amounts (n + size f) fs))
-
-module _ (amounts : List Field) (s : List ℕ) where
-  one-read : (n : ℕ) (f : Field) → front (drop n s) ≡ f → n < 65536 → (gs : List Field) (ks : List ℕ) →
-      map (λ k. front (drop k s)) ks ≡ filter (is_lowering amounts) gs →
-      map (λ k. front (drop k s)) (lowering_at amounts (record { place = n; this = f }) ++ ks) ≡ filter (is_lowering amounts) (f ∷ gs)
-  unfolding lowering_at filter
-  one-read n f e l gs ks i = go (is_lowering amounts f)
-    where
-      go : (k : Bool) → map (λ k. front (drop k s)) (cond k (n % 65536 ∷ []) [] ++ ks) ≡ cond k (f ∷ filter (is_lowering amounts) gs) (filter (is_lowering amounts) gs)
-      go true = rw (mod-eq_of_lt l, e, i)
-      go false = i
-
-  row_read : (n : ℕ) (fs : Fields) → Every (Stands s) (placed n fs) → n + sizes fs ≤ 65538 →
-      map (λ k. front (drop k s)) (many_of amounts n fs) ≡ filter (is_lowering amounts) (row fs)
-  unfolding flat_map placed sizes row filter
-  row_read n (end r) e l = refl
-  row_read n (next f fs) e l =
-      one-read n f e.0 (omega (arith, size-least f)) (row fs) (many_of amounts (n + size f) fs) (row_read (n + size f) fs e.1 (omega arith))
-
-statement-tag : (t : ℕ) → is_assign t ≡ true → between Guard ExpressionStatement t ≡ true
-unfolding is_assign
-statement-tag t h =
-    let a : Set ≤ t = leb-true Set t (and_left (leb Set t) (leb t SubtractFrom) h) in
-    let b : t ≤ SubtractFrom = leb-true t SubtractFrom (and_right (leb Set t) (leb t SubtractFrom) h) in
-    rw (le-leb Guard t (omega arith), le-leb t ExpressionStatement (omega arith))
-
-lowering-assigns : (amounts : List Field) (s : Field) → is_lowering amounts s ≡ true → is_assign (tag s) ≡ true
-unfolding is_lowering
-lowering-assigns amounts s h =
-    let a : Bool = any (expr_eq (lowered_by (ident (part 0 s)) s)) amounts in
-    and_left (is_assign (tag s)) a (and_left (is_assign (tag s) && a) (not (contains_wrapping (part 1 s))) h)
-
-lowering-statement : (amounts : List Field) (s : Field) → is_lowering amounts s ≡ true → between Guard ExpressionStatement (tag s) ≡ true
-lowering-statement amounts s h = statement-tag (tag s) (lowering-assigns amounts s h)
-
-module _ (amounts : List Field) (s : List ℕ) where
-  parts-small : 3 + sizes (parts (front s)) ≤ 3 + length s
+module _ (amount : Field) (file : List ℕ) (place : ℕ) where
+  small-parts : place + 3 + sizes (parts (front (drop place file))) ≤ place + 3 + length file
   unfolding sizes
-  parts-small = go (whole s) refl
+  small-parts = go (whole (drop place file)) refl
     where
-      go : (w : Bool) → whole s ≡ w → 3 + sizes (parts (front s)) ≤ 3 + length s
-      go true w = omega (arith, parts-inside (front s), front-size s w, leb-true (3 + length_of s) (length s) w)
-      go false w = rw (front-none s w) (omega arith)
+      go : (w : Bool) → whole (drop place file) ≡ w → place + 3 + sizes (parts (front (drop place file))) ≤ place + 3 + length file
+      go true w =
+          omega (arith, parts-inside (front (drop place file)), front-size (drop place file) w, leb-true (3 + length_of (drop place file)) (length (drop place file)) w, length-drop place file)
+      go false w = rw (front-none (drop place file) w) (omega arith)
 
-  places-few : 9 * length (lowering_places amounts (front s)) ≤ length s
-  unfolding lowering_places
-  places-few = omega (arith, many-few amounts 3 (parts (front s)), parts-small)
+  numbers-few : 9 * length (lowering_numbers amount (placed_at file place)) ≤ 2 * length file
+  unfolding lowering_numbers
+  numbers-few = omega (arith, many-few amount (place + 3) (parts (front (drop place file))), small-parts)
 
-  places-read : length s ≤ 32768 → fields_at s (lowering_places amounts (front s)) ≡ lowerings amounts (front s)
-  unfolding lowering_places lowerings body fields_from fields_at
-  places-read h =
-      row_read amounts s 3 (parts (front s)) (parts-stand s (placed_at s 0) refl) (omega (arith, parts-small))
-      ∙ sym (filter-first (is_lowering amounts) (λ f. between Guard ExpressionStatement (tag f)) (lowering-statement amounts) (row (parts (front s))))
+  -- what list_lowerings writes finds room in a table of two numbers for each nine bytes of the file
+  module _ (table last : List ℕ) (count : ℕ) (l : Listed (lowering_numbers amount (placed_at file place)) table 0 last count) (k : 2 * length file ≤ 9 * length table) where
+    enough : count ≤ length table
+    enough = omega (arith, l.count, numbers-few)
 
--- what list_lowerings writes: a table with a number for each three bytes of the file has room for all
-module _ (amounts : List Field) (file : List ℕ) (place : ℕ) (x : List ℕ) (e : x ≡ drop place file) (table last : List ℕ) (count : ℕ)
-    (l : Listed (lowering_places amounts (front x)) table 0 last count) (k : length file ≤ 3 * length table) where
-  within : length x ≤ length file
-  within = rw (e, length-drop) (omega arith)
+    pub lowerings-room : count ≤ length last
+    lowerings-room = rw (l.kept, length-sets) enough
 
-  enough : count ≤ length table
-  enough = omega (arith, l.count, places-few amounts x, within)
+    pub lowerings-count : count ≡ length (take count last)
+    lowerings-count = sym (length-take-le count last lowerings-room)
 
-  pub lowerings-room : count ≤ length last
-  lowerings-room = rw (l.kept, length-sets) enough
+    pub lowerings-listed : take count last ≡ lowering_numbers amount (placed_at file place)
+    lowerings-listed = listed-front (lowering_numbers amount (placed_at file place)) table last count l enough
 
-  pub lowerings-count : count ≡ length (take count last)
-  lowerings-count = sym (length-take-le count last lowerings-room)
+-- Read back, the numbers tell whether r is lowered
 
-  pub lowerings-read : length file ≤ 32768 → fields_at (drop place file) (take count last) ≡ lowerings amounts (front (drop place file))
-  lowerings-read h =
-      rw (← e, listed-front (lowering_places amounts (front x)) table last count l enough) (places-read amounts x (omega (arith, within)))
+module _ (amount : Field) (file r : List ℕ) where
+  names-decide : (a : List ℕ) → eqb (short_number a) (short_number r) && same_bytes a r ≡ same_bytes a r
+  names-decide a = go (same_bytes a r) refl
+    where
+      go : (k : Bool) → same_bytes a r ≡ k → eqb (short_number a) (short_number r) && k ≡ k
+      go true e = rw (bytes-equal a r e, eq-eqb (short_number r) (short_number r) refl)
+      go false e = and-false (eqb (short_number a) (short_number r))
 
--- An entry that assigns nothing has none
+  one-read : (n : ℕ) (f : Field) → front (drop n file) ≡ f → n < 65536 → (ks : List ℕ) →
+      lowered_in file r (lowering_at amount (record { place = n; this = f }) ++ ks) ≡ lowers amount r f || lowered_in file r ks
+  unfolding lowering_at lowered_in
+  one-read n f e l ks = go (is_lowering amount f) refl
+    where
+      go : (k : Bool) → is_lowering amount f ≡ k →
+          lowered_in file r (cond k (short_number (target f) ∷ n % 65536 ∷ []) [] ++ ks) ≡ lowers amount r f || lowered_in file r ks
+      go true i = rw (mod-eq_of_lt l, e, names-decide (target f), ← lowers-by amount r f, i)
+      go false i = rw (← lowers-by amount r f, i)
 
-pub nothing-assigned : (amounts : List Field) (entry : Field) → fields_from Set SubtractFrom (parts entry) ≡ [] → lowerings amounts entry ≡ []
-unfolding lowerings body fields_from filter is_assign
-nothing-assigned amounts entry none =
-    filter-first (is_lowering amounts) (λ f. between Guard ExpressionStatement (tag f)) (lowering-statement amounts) (row (parts entry))
-    ∙ sym (filter-first (is_lowering amounts) (λ f. between Set SubtractFrom (tag f)) (lowering-assigns amounts) (row (parts entry)))
-    ∙ rw none
+  row-read : (n : ℕ) (fs : Fields) → Every (Stands file) (placed n fs) → n + sizes fs ≤ 65538 →
+      lowered_in file r (many_of amount n fs) ≡ any (lowers amount r) (row fs)
+  unfolding flat_map placed sizes row any lowered_in
+  row-read n (end z) e l = refl
+  row-read n (next f fs) e l =
+      one-read n f e.0 (omega (arith, size-least f)) (many_of amount (n + size f) fs) ∙ rw (row-read (n + size f) fs e.1 (omega arith))
+
+pub lowerings-decide : (amount : Field) (file : List ℕ) (place : ℕ) (r : List ℕ) → length file ≤ 32768 →
+    lowered_in file r (lowering_numbers amount (placed_at file place)) ≡ any (lowers amount r) (body (front (drop place file)))
+unfolding lowering_numbers flat_map placed lowered_in any body fields_from row filter
+lowerings-decide amount file place r h = go (whole (drop place file)) refl
+  where
+    go : (w : Bool) → whole (drop place file) ≡ w →
+        lowered_in file r (many_of amount (place + 3) (parts (front (drop place file)))) ≡ any (lowers amount r) (body (front (drop place file)))
+    go true w =
+        let k = leb-true (3 + length_of (drop place file)) (length (drop place file)) w in
+        row-read amount file r (place + 3) (parts (front (drop place file))) (parts-stand file (placed_at file place) refl)
+        (omega (arith, parts-inside (front (drop place file)), front-size (drop place file) w, k, length-drop place file, h))
+        ∙ any-lowers amount r (front (drop place file))
+    go false w = rw (front-none (drop place file) w)

@@ -1,13 +1,11 @@
--- A payout's amount as the code reads it: no longer than what it stands in, and among those that are asked for.
-use Rattle.std.proofs.Common.{ℕ, ◌≤◌, ◌<◌, ◌≡◌, ◌∙◌, Bool, true, false, List, arith, length, get_or, take, drop, length-take, length-drop}
-use Rattle.laws.specs.Lists.{any}
+-- A payout's amount as the code reads it: no longer than what it stands in.
+use Rattle.std.proofs.Common.{ℕ, ◌≤◌, ◌≡◌, ◌∙◌, Bool, true, false, List, arith, length, get_or, take, drop, length-take, length-drop}
 use Rattle.laws.specs.Texts.{same_bytes, bytes}
-use Rattle.laws.proofs.Lists.{any-map, any-among}
 use Rattle.laws.proofs.Slices.{drop-shorter}
-use Rattle.fields.specs.Field.{Field, front, parts, part, sizes, place_of}
+use Rattle.fields.specs.Field.{front, parts, part, sizes, place_of}
 use Rattle.walking.specs.Walking.{peel, peel_place, method}
 use Rattle.guards.specs.Payouts.{payout_amount}
-use Rattle.guards.specs.Asked.{paid_at, asked_amount, asked_amounts}
+use Rattle.guards.specs.Asked.{paid_at, asked_amount}
 
 -- the third argument, or what is split off
 module _ (s v k : List ℕ) (e : front v ≡ part 3 (front s)) (f : front k ≡ peel (front v)) (n : List ℕ) (g : n ≡ method (front k))
@@ -50,10 +48,3 @@ module _ (file : List ℕ) (n : ℕ) (s : List ℕ) (f : s ≡ drop n file) (x :
 pub asked-read : (file asked : List ℕ) (k n : ℕ) → n ≡ get_or asked k 0 → (y : List ℕ) → front y ≡ paid_at file n → front y ≡ asked_amount file asked k
 unfolding asked_amount
 asked-read file asked k n e y h = h ∙ rw e
-
--- and so among all
-pub asked-among : (file asked : List ℕ) (count k : ℕ) → k < count → count ≤ length asked →
-    (p : Field → Bool) → p (asked_amount file asked k) ≡ true → any p (asked_amounts file (take count asked)) ≡ true
-unfolding asked_amount asked_amounts
-asked-among file asked count k h w p e =
-    rw (any-map (paid_at file) p (take count asked)) (any-among (λ n. p (paid_at file n)) asked count k 0 h w e)

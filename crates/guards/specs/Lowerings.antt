@@ -1,32 +1,33 @@
--- The assignments of an entry that lower some state field by an amount that is asked for, as places in a lent table.
-use Rattle.std.specs.Prelude.{ℕ, ◌%◌, Bool, cond, ◌&&◌, not}
+-- The assignments of an entry that lower some state field by an amount, as numbers in a lent table.
+use Rattle.std.specs.Prelude.{ℕ, ◌%◌, Bool, false, cond, ◌&&◌, ◌||◌, not, eqb, drop}
 use mathlib.Core.List.{List, [], ◌∷◌, flat_map}
-use Rattle.laws.specs.Lists.{any, filter}
+use Rattle.laws.specs.Texts.{same_bytes}
 use Rattle.tags.specs.Tag.{is_assign}
-use Rattle.fields.specs.Field.{Field, Placed, tag, parts, part, placed}
-use Rattle.model.specs.Model.{body}
+use Rattle.fields.specs.Field.{Field, Placed, front, tag, part, placed_parts}
+use Rattle.fields.specs.Number.{short_number}
 use Rattle.walking.specs.Walking.{ident}
 use Rattle.equality.specs.Equality.{expr_eq}
-use Rattle.raises.specs.Raises.{assigns}
 use Rattle.guards.specs.Guards.{contains_wrapping, lowered_by}
 
--- an assignment lowers its own target by one of the amounts, and no Wrapping stands anywhere in its value
-unfoldable pub is_lowering : List Field → Field → Bool
-is_lowering amounts s =
-    is_assign (tag s) && any (expr_eq (lowered_by (ident (part 0 s)) s)) amounts && not (contains_wrapping (part 1 s))
+-- the name of the state field that an assignment assigns to
+abbrev pub target : Field → List ℕ
+target s = ident (part 0 s)
 
--- those of an entry
-unfoldable pub lowerings : List Field → Field → List Field
-lowerings amounts entry = filter (is_lowering amounts) (body entry)
+-- an assignment lowers its own target by the amount, and no Wrapping stands anywhere in its value
+unfoldable pub is_lowering : Field → Field → Bool
+is_lowering amount s = is_assign (tag s) && expr_eq (lowered_by (target s) s) amount && not (contains_wrapping (part 1 s))
 
--- what is left to ask of one of them: it lowers r by the amount
-unfoldable pub may_lower : Field → List ℕ → Field → Bool
-may_lower amount r s = assigns r s && expr_eq (lowered_by r s) amount
+-- what is written of a part of the entry, where it is one of them: the number of its target's name, and its place in the file; up to
+-- 65,535 the place is itself
+unfoldable pub lowering_at : Field → Placed → List ℕ
+lowering_at amount p = cond (is_lowering amount p.this) (short_number (target p.this) ∷ p.place % 65536 ∷ []) []
 
--- what is written of a part of the entry: its place, where it is one of them
-unfoldable pub lowering_at : List Field → Placed → List ℕ
-lowering_at amounts p = cond (is_lowering amounts p.this) (p.place % 65536 ∷ []) []
+-- of all parts
+unfoldable pub lowering_numbers : Field → Placed → List ℕ
+lowering_numbers amount entry = flat_map (lowering_at amount) (placed_parts entry)
 
--- of all parts; places are counted from the entry on, so that two bytes hold each
-unfoldable pub lowering_places : List Field → Field → List ℕ
-lowering_places amounts entry = flat_map (lowering_at amounts) (placed 3 (parts entry))
+-- one of the assignments of a table has the target r: names whose numbers differ need not be compared
+unfoldable pub lowered_in : (file r : List ℕ) → List ℕ → Bool
+lowered_in file r [] = false
+lowered_in file r (number ∷ []) = false
+lowered_in file r (number ∷ n ∷ ks) = eqb number (short_number r) && same_bytes (target (front (drop n file))) r || lowered_in file r ks

@@ -1,20 +1,21 @@
 // SPDX-License-Identifier: Apache-2.0 OR MIT
-// The assignments that lower a state field by an amount. Those of an entry that lower some field by an amount that is asked for
-// are listed once, so that a guard is compared with no other statement.
-ghost use Rattle.std.specs.Prelude.{◌≡◌};
-ghost use Rattle.laws.specs.Lists.{any};
+// The assignments that lower a state field by an amount: those of an entry are listed once for a payout, and each guard that bounds
+// the amount is then compared with them by the name of its state field.
+ghost use Rattle.std.specs.Prelude.{◌≡◌, true, ◌&&◌, eqb, ◌≤◌, ◌+◌, ◌^◌, ◌<◌, length, drop};
+ghost use Rattle.laws.specs.Texts.{same_bytes};
 ghost use Rattle.fields.specs.Field.{front};
-ghost use Rattle.fields.specs.Table.{Listed, fields_at};
+ghost use Rattle.fields.specs.Number.{short_number};
+ghost use Rattle.fields.specs.Table.{Listed};
+ghost use Rattle.walking.specs.Table.{placed_at};
 ghost use Rattle.guards.specs.Guards.{contains_wrapping, lowered_by};
-ghost use Rattle.guards.specs.Asked.{asked_amounts};
-ghost use Rattle.guards.specs.Lowerings.{is_lowering, may_lower, lowering_places};
+ghost use Rattle.guards.specs.Lowerings.{target, is_lowering, lowering_at, lowering_numbers, lowered_in};
 
-use super::payout::is_asked;
 use equality::expr_eq;
-use fields::bytes::skip;
+use fields::bytes::{same_bytes, skip};
 use fields::front::{after_front, is_whole, length_of, part_of, parts_of, tag_of};
+use fields::number::short_number;
 use fields::table::{note, number_at};
-use raises::assignment::{assigns, sets_from, value_of};
+use raises::assignment::{sets_from, value_of};
 use tags::{SUB, SUBTRACT_FROM, WRAPPING, is_assign};
 use walking::peel::peel;
 use walking::shape::ident;
@@ -43,31 +44,55 @@ pub fn lowered_by<'a>(name: &[u8], s: &'a [u8]) -> &'a [u8]
     &s[..0]
 }
 
-// Whether the statement at the front of s lowers its own target by an amount that a payout asks for. Most amounts differ at
-// once, so Wrapping is looked for last.
-fn is_lowering(file: &[u8], asked: &[u16], s: &[u8]) -> bool
-    ensures { result ≡ is_lowering (asked_amounts file.now asked.now) (front s.now) }
+// The name that the assignment at the front of s assigns to.
+fn target(s: &[u8]) -> &[u8]
+    ensures { result.now ≡ target (front s.now) }
+{
+    ident(part_of(s, 0))
+}
+
+// Whether the statement at the front of s lowers its own target by the amount. Most amounts differ at once, so Wrapping is looked
+// for last.
+fn is_lowering(amount: &[u8], s: &[u8]) -> bool
+    ensures { result ≡ is_lowering (front amount.now) (front s.now) }
 {
     if !is_assign(tag_of(s)) {
         return false;
     }
-    let amount = lowered_by(ident(part_of(s, 0)), s);
-    if !is_asked(file, asked, amount) {
+    if !expr_eq(lowered_by(target(s), s), amount) {
         return false;
     }
     !contains_wrapping(part_of(s, 1))
 }
 
-// Lists the places of those statements in the part of the file that starts with the entry, as far as the table has room, and
-// answers how many there are.
-pub fn list_lowerings(file: &[u8], asked: &[u16], entry: &[u8], table: &mut [u16]) -> usize
-    ensures { Listed (lowering_places (asked_amounts file.now asked.now) (front entry.now)) table.old 0 table.new result }
+// Writes the two numbers of the statement at the front of s, which stands at a place of the file, from n of the table on; nothing
+// where it does not lower its target by the amount.
+fn note_lowering(amount: &[u8], s: &[u8], at: usize, table: &mut [u16], n: usize) -> usize
+    requires { is_lowering (front amount.now) (front s.now) ≡ true → n + 2 < 2 ^ 64 }
+    ensures { Listed (lowering_at (front amount.now) (record { place = at; this = front s.now })) table.old n table.new result }
 {
+    if !is_lowering(amount, s) {
+        return n;
+    }
+    let m = note(true, short_number(target(s)), table, n);
+    note(true, at % 65536, table, m)
+}
+
+// Lists what in the entry at a place of the file lowers a state field by the amount: two numbers each, that of its target's name and
+// its place. The answer is how many numbers there are.
+pub fn list_lowerings(file: &[u8], place: usize, amount: &[u8], table: &mut [u16]) -> usize
+    requires { length file.now ≤ 32768 }
+    ensures { Listed (lowering_numbers (front amount.now) (placed_at file.now place)) table.old 0 table.new result }
+{
+    let entry = skip(file, place);
+    if !is_whole(entry) {
+        return 0;
+    }
     let mut t = parts_of(entry);
-    let mut at = 3;
+    let mut at = place + 3;
     let mut n = 0;
     while is_whole(t) {
-        n = note(is_lowering(file, asked, t), at % 65536, table, n);
+        n = note_lowering(amount, t, at, table, n);
         at += 3 + length_of(t);
         let u = after_front(t);
         t = u;
@@ -75,27 +100,29 @@ pub fn list_lowerings(file: &[u8], asked: &[u16], entry: &[u8], table: &mut [u16
     n
 }
 
-// Whether the statement at the front of s lowers the state field by the amount; whether Wrapping stands in it is not asked.
-fn may_lower(amount: &[u8], name: &[u8], s: &[u8]) -> bool
-    ensures { result ≡ may_lower (front amount.now) name.now (front s.now) }
+// Whether the assignment at a place of the file, whose target's name has that number, assigns to the name with the other.
+fn has_target(file: &[u8], number: usize, place: usize, name: &[u8], name_number: usize) -> bool
+    requires { name_number ≡ short_number name.now }
+    ensures { result ≡ eqb number (short_number name.now) && same_bytes (target (front (drop place file.now))) name.now }
 {
-    if !assigns(name, s) {
+    if number != name_number {
         return false;
     }
-    expr_eq(lowered_by(name, s), amount)
+    same_bytes(target(skip(file, place)), name)
 }
 
-// Whether one of the lowerings does, which stand at the places of a table in the part of the file that starts with the entry. No
-// Wrapping stands in a lowering.
-pub fn is_lowered(entry: &[u8], lowerings: &[u16], amount: &[u8], name: &[u8]) -> bool
-    ensures { result ≡ any (may_lower (front amount.now) name.now) (fields_at entry.now lowerings.now) }
+// Whether one of the lowerings of a table lowers the state field of that name.
+pub fn is_lowered(file: &[u8], lowerings: &[u16], name: &[u8]) -> bool
+    ensures { result ≡ lowered_in file.now name.now lowerings.now }
 {
+    let name_number = short_number(name);
     let mut i = 0;
-    while i < lowerings.len() {
-        if may_lower(amount, name, skip(entry, number_at(lowerings, i))) {
+    while 1 < lowerings.len() - i {
+        let number = number_at(lowerings, i);
+        if has_target(file, number, number_at(lowerings, i + 1), name, name_number) {
             return true;
         }
-        i += 1;
+        i += 2;
     }
     false
 }

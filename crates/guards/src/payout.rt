@@ -1,13 +1,10 @@
 // SPDX-License-Identifier: Apache-2.0 OR MIT
 // A payout's token and amount. The payouts that ask for a state field stand in the file at the places of a table.
 ghost use Rattle.std.specs.Prelude.{◌≡◌, ◌≤◌, length};
-ghost use Rattle.laws.specs.Lists.{any};
 ghost use Rattle.fields.specs.Field.{front};
-ghost use Rattle.equality.specs.Equality.{expr_eq};
 ghost use Rattle.guards.specs.Payouts.{payout_token, payout_amount};
-ghost use Rattle.guards.specs.Asked.{asked_token, paid_at, asked_amount, asked_amounts};
+ghost use Rattle.guards.specs.Asked.{asked_token, paid_at, asked_amount};
 
-use equality::expr_eq;
 use fields::bytes::{same_bytes, skip};
 use fields::front::part_of;
 use fields::table::number_at;
@@ -55,18 +52,4 @@ pub fn asked_amount<'a>(file: &'a [u8], asked: &[u16], k: usize) -> &'a [u8]
     ensures within { length result.now ≤ length file.now }
 {
     amount_paid(file, number_at(asked, k))
-}
-
-// Whether one of the payouts asks for the amount.
-pub fn is_asked(file: &[u8], asked: &[u16], amount: &[u8]) -> bool
-    ensures { result ≡ any (expr_eq (front amount.now)) (asked_amounts file.now asked.now) }
-{
-    let mut i = 0;
-    while i < asked.len() {
-        if expr_eq(amount, asked_amount(file, asked, i)) {
-            return true;
-        }
-        i += 1;
-    }
-    false
 }

@@ -26,6 +26,12 @@ pub ruleset slices = (get_d_past, take_past, take_count, drop_past, drop-rest)
 pub drop-step : (l : List ℕ) (i : ℕ) → i < length l → drop i l ≡ get_or l i 0 ∷ drop (i + 1) l
 drop-step l i h = rw add-one (drop-cons l i 0 h)
 
+-- the next two
+pub next-two : (l : List ℕ) (i : ℕ) → 1 < length l - i → drop i l ≡ get_or l i 0 ∷ get_or l (i + 1) 0 ∷ drop (i + 2) l
+next-two l i h =
+    let e : i + 1 + 1 ≡ i + 2 = omega arith in
+    drop-step l i (omega arith) ∙ rw (drop-step l (i + 1) (omega arith), e)
+
 -- the next number of the first n
 pub step-within : (l : List ℕ) (n i : ℕ) → n ≤ length l → i < n → drop i (take n l) ≡ get_or l i 0 ∷ drop (i + 1) (take n l)
 step-within l n i w h =

@@ -1,5 +1,5 @@
 -- The definitions computed on examples: which guard and which assignment let a state field cover a payout.
-use Rattle.std.proofs.Common.{ℕ, ◌≡◌, refl, List, [], ◌∷◌, ◌++◌, map, length}
+use Rattle.std.proofs.Common.{ℕ, ◌≡◌, refl, List, [], ◌∷◌, ◌++◌, map, length, Bool, true, false}
 use mathlib.Core.Option.{Option}
 use Prim.Native.String.{String}
 use mathlib.Core.List.{flat_map}
@@ -19,8 +19,9 @@ use Rattle.tokens.specs.Tokens.{single, beside_in_asset, is_inflow, is_credit}
 use Rattle.raises.specs.Raises.{assigns, value, sets_from, is_zero, defaults, genesis_values, starts_at_zero, raise, raises}
 use Rattle.reserve_tokens.specs.ReserveTokens.{credited, guard_token, guard_tokens, only, debit_token, raise_token, raise_tokens, reserve_token}
 use Rattle.guards.specs.Guards.{contains_inflow, guarded_field, guarded_amount, guarded_by, contains_wrapping, lowered_by, lowers}
+use Rattle.fields.specs.Number.{number_from}
 use Rattle.reserves.specs.Reserves.{reserve_covers, reserve_bounding_payout}
-use Rattle.reserves.specs.Candidates.{counts, state_index, numbers_at, candidate_numbers}
+use Rattle.guards.specs.Lowerings.{is_lowering, lowering_at, lowering_numbers, lowered_in}
 
 abbrev r : List ℕ
 r = identifier "r"
@@ -156,21 +157,26 @@ first-that-covers : covered
 unfolding covering
 first-that-covers = refl
 
--- The table of candidates
+-- The table of lowerings
 
 -- of the entry behind `before`, which takes 106 bytes; 24 stand before the entry's first guard, and a guard takes 33
-numbers : List (List ℕ) → List (List ℕ) → List (List ℕ)
-unfolding any filter same_bytes position fields fields_to nth composite size sizes placed row fields_from flat_map is_assign is_expression is_statement is_wrapper state_names body peel
-    peel_first walk walk_parts ident expr_eq parts_eq strip same_text guarded_field guarded_amount assigns value contains_wrapping sets_from lowered_by lowers counts state_index
-    numbers_at candidate_numbers
-numbers amounts bodies = map (λ c. candidate_numbers (fields (before ++ taking c)) (map front amounts) (placed_at (before ++ taking c) (length before))) bodies
+numbers : List (List ℕ) → List (List ℕ)
+unfolding same_bytes any fields fields_to nth composite size sizes placed flat_map is_assign is_expression is_wrapper peel peel_first walk walk_parts ident expr_eq parts_eq strip same_text
+    assigns value contains_wrapping sets_from lowered_by is_lowering lowering_at lowering_numbers number_from
+numbers bodies = map (λ c. lowering_numbers (front double) (placed_at (before ++ taking c) (length before))) bodies
 
--- one guard that counts, its place and the number of r; none; two guards, of which the first does not count; asked for behind n
-listed : numbers (n ∷ double ∷ []) ((guarded ++ lowered) ∷ guarded ∷ (guard (write Ge (s ++ double)) ++ (guarded ++ lowered)) ∷ []) ≡ (130 ∷ 1 ∷ []) ∷ [] ∷ (163 ∷ 1 ∷ []) ∷ []
-unfolding numbers
-listed = refl
+-- r's name has the number 35659; behind a guard, at once, of another amount, by an addition, and of two names
+lowerings-listed : numbers ((guarded ++ lowered) ∷ lowered ∷ (guarded ++ write SubtractFrom (r ++ n)) ∷ (guarded ++ write AddTo (r ++ double)) ∷ (lowered ++ write SubtractFrom (s ++ double)) ∷ [])
+    ≡ (35659 ∷ 163 ∷ []) ∷ (35659 ∷ 130 ∷ []) ∷ [] ∷ [] ∷ (35659 ∷ 130 ∷ 60692 ∷ 160 ∷ []) ∷ []
+unfolding numbers filter
+lowerings-listed = refl
 
--- a guard whose amount nobody asks for
-unasked : numbers (n ∷ amount_of "b" ∷ []) ((guarded ++ lowered) ∷ []) ≡ [] ∷ []
-unfolding numbers
-unasked = refl
+-- whether a table of one lowering, of that number, lowers r or s
+named : ℕ → List Bool
+unfolding same_bytes fields fields_to nth composite ident lowered_in number_from
+named number = map (λ x. lowered_in (before ++ taking lowered) (bytes x) (number ∷ 130 ∷ [])) ("r" ∷ "s" ∷ [])
+
+-- its own number, that of s, and neither
+names-compared : named 35659 ++ (named 60692 ++ named 0) ≡ true ∷ false ∷ false ∷ false ∷ false ∷ false ∷ []
+unfolding named
+names-compared = refl

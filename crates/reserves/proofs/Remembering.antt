@@ -9,7 +9,8 @@ use Rattle.reserve_tokens.specs.ReserveTokens.{reserve_token}
 use Rattle.reserve_tokens.specs.Numbers.{reserve_number}
 use Rattle.reserve_tokens.proofs.Numbers.{reserve-small}
 use Rattle.fundings.specs.Funded.{Relisted, remembered_at, state_fields, listed_from, facts_size}
-use Rattle.reserves.specs.Holding.{state_name, is_token, holds_token, Facts}
+use Rattle.reserves.specs.States.{state_name}
+use Rattle.reserves.specs.Holding.{is_token, holds_token, Facts}
 
 -- where nothing is worked out yet, nothing is wrong
 pub facts-none : (file facts : List ℕ) → facts ≡ replicate facts_size not_yet → Facts file facts

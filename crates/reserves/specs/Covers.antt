@@ -1,14 +1,18 @@
 -- The state field that covers a payout, by its number among all.
-use Rattle.std.specs.Prelude.{ℕ, Bool, cond, ◌&&◌, List, [], ◌∷◌, drop}
+use Rattle.std.specs.Prelude.{ℕ, Bool, cond, ◌&&◌, List, map}
 use Rattle.std.proofs.Math.Option.{Option, none, some}
-use Rattle.fields.specs.Field.{Field, Fields, fields, front, part}
-use Rattle.equality.specs.Equality.{expr_eq}
+use Rattle.laws.specs.Lists.{any, find}
+use Rattle.laws.specs.Texts.{same_bytes}
+use Rattle.fields.specs.Field.{Field, Fields, fields, part}
+use Rattle.model.specs.Model.{state_names}
 use Rattle.entries.specs.Entered.{entry_of}
-use Rattle.guards.specs.Guards.{contains_inflow, guarded_amount}
+use Rattle.reserve_tokens.specs.ReserveTokens.{reserve_token}
+use Rattle.guards.specs.Guards.{guarded_field}
+use Rattle.guards.specs.Lowerings.{lowered_in}
 use Rattle.guards.specs.Asked.{asked_token, asked_amount}
 use Rattle.reserves.specs.Reserves.{reserve_bounding_payout}
-use Rattle.reserves.specs.Holding.{holds_token}
-use Rattle.reserves.specs.Candidates.{state_index}
+use Rattle.reserves.specs.States.{state_index}
+use Rattle.reserves.specs.Holding.{is_token}
 use Rattle.reserves.specs.declared.covering.Reserve.{Reserve}
 use Rattle.reserves.specs.declared.covering.Reserve.TheVariants.{Covers, Nothing}
 
@@ -27,23 +31,16 @@ abbrev pub asked_reserve : (file : List ℕ) (place : ℕ) (table : List ℕ) (k
 asked_reserve file place table k =
     index_in (fields file) (reserve_bounding_payout (fields file) (entry_of file place) (asked_amount file table k) (asked_token file table k))
 
--- the amount of the guard that stands at a place
-unfoldable pub amount_at : List ℕ → ℕ → Field
-amount_at file n = guarded_amount (part 0 (front (drop n file)))
+-- the state field r, by which a guard bounds the amount, covers it: one of the lowerings of a table lowers it, and it holds the token
+unfoldable pub field_covers : (file token lowerings r : List ℕ) → Bool
+field_covers file token lowerings r =
+    lowered_in file r lowerings && any (same_bytes r) (state_names (fields file)) && is_token (reserve_token (fields file) r) token
 
--- of a table's pairs of a guard's place and a field's number, those from the first on whose guard bounds the amount
-unfoldable pub equal_from : List ℕ → Field → List ℕ → List ℕ
-equal_from file amount [] = []
-equal_from file amount (n ∷ []) = []
-equal_from file amount (n ∷ i ∷ l) = cond (expr_eq (amount_at file n) amount) (n ∷ i ∷ l) (equal_from file amount l)
+-- its number, if it does
+unfoldable pub named_reserve : (file token lowerings r : List ℕ) → Option ℕ
+named_reserve file token lowerings r = cond (field_covers file token lowerings r) (some (state_index (fields file) r)) none
 
--- the state field of the first pair whose guard bounds the amount and whose field passes
-unfoldable pub first_covering : List ℕ → Field → (ℕ → Bool) → List ℕ → Option ℕ
-first_covering file amount holds [] = none
-first_covering file amount holds (n ∷ []) = none
-first_covering file amount holds (n ∷ i ∷ l) = cond (expr_eq (amount_at file n) amount && holds i) (some i) (first_covering file amount holds l)
-
--- that of payout k, where its amount contains what comes in with the entry at a place
-abbrev pub first_contained : (file : List ℕ) (place : ℕ) (table : List ℕ) (k : ℕ) → Field → List ℕ → Option ℕ
-first_contained file place table k amount l =
-    cond (contains_inflow (entry_of file place) amount) (first_covering file amount (holds_token file (asked_token file table k)) l) none
+-- that of the first of some guards whose state field does
+unfoldable pub first_covering : (file token lowerings : List ℕ) → List Field → Option ℕ
+first_covering file token lowerings guards =
+    index_in (fields file) (find (field_covers file token lowerings) (map (λ g. guarded_field (part 0 g)) guards))

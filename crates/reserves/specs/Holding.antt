@@ -1,16 +1,12 @@
 -- Whether a state field holds the token that is asked for, and what is remembered of it.
-use Rattle.std.specs.Prelude.{ℕ, ◌*◌, ◌≤◌, ◌≡◌, Bool, ◌&&◌, List, [], length, get_or}
+use Rattle.std.specs.Prelude.{ℕ, ◌*◌, ◌≤◌, ◌≡◌, Bool, ◌&&◌, List, length}
 use Rattle.laws.specs.Texts.{same_bytes, known}
 use Rattle.fields.specs.Field.{fields}
-use Rattle.model.specs.Model.{state_names}
 use Rattle.tokens.specs.Numbers.{not_yet}
 use Rattle.reserve_tokens.specs.ReserveTokens.{reserve_token}
 use Rattle.reserve_tokens.specs.Numbers.{reserve_number}
 use Rattle.fundings.specs.Funded.{Funded, remembered_at}
-
--- the name of the i-th state field
-unfoldable pub state_name : List ℕ → ℕ → List ℕ
-state_name file i = get_or (state_names (fields file)) i []
+use Rattle.reserves.specs.States.{state_name}
 
 -- a token is known, and it is t
 unfoldable pub is_token : (t u : List ℕ) → Bool

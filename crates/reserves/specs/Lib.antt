@@ -1,4 +1,4 @@
 pub mod Reserves
-pub mod Candidates
+pub mod States
 pub mod Holding
 pub mod Covers

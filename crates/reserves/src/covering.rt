@@ -1,21 +1,27 @@
 // SPDX-License-Identifier: Apache-2.0 OR MIT
-// The state field that covers a payout.
-ghost use Rattle.std.specs.Prelude.{◌≡◌, ◌&&◌, ◌+◌, ◌≤◌, ◌<◌, length, get_or, drop};
+// The state field that covers a payout. Nothing is worked out before a payout comes to it, and then what costs least is asked first: most
+// payouts ask for no amount that a guard bounds.
+ghost use Rattle.std.specs.Prelude.{◌≡◌};
 ghost use Rattle.fields.specs.Field.{front};
-ghost use Rattle.equality.specs.Equality.{expr_eq};
-ghost use Rattle.reserves.specs.Candidates.{Candidates};
-ghost use Rattle.reserves.specs.Holding.{holds_token, Facts, Known};
-ghost use Rattle.reserves.specs.Covers.{index_of, asked_reserve, amount_at, equal_from, first_covering, first_contained};
+ghost use Rattle.walking.specs.Table.{placed_at};
+ghost use Rattle.guards.specs.Bounding.{bounding_from};
+ghost use Rattle.guards.specs.Lowerings.{lowering_numbers};
+ghost use Rattle.reserves.specs.Holding.{Facts, Known};
+ghost use Rattle.reserves.specs.Covers.{index_of, asked_reserve, named_reserve, first_covering};
 
 use super::holding::holds_token;
+use super::state::state_number;
 use entries::entry::Entry;
-use equality::expr_eq;
 use fields::bytes::skip;
-use fields::front::part_of;
-use fields::table::number_at;
+use fields::front::{after_front, is_whole, part_of, parts_of};
+use fundings::facts::list_facts;
 use guards::contained::contains_inflow;
-use guards::guarded::guarded_amount;
+use guards::guarded::{first_guard, guarded_field};
+use guards::lowering::{is_lowered, list_lowerings};
 use guards::payout::{asked_amount, asked_token};
+
+// Two numbers for each nine bytes of a file that passes question 1: a statement that lowers a state field takes as many at least.
+const LOWERINGS: usize = 7282;
 
 // The state field of that number covers the payout, or none does.
 #[derive(Drop)]
@@ -24,117 +30,113 @@ pub enum Reserve {
     Nothing,
 }
 
-// The amount of the guard that stands at a place of the file.
-fn amount_at(file: &[u8], place: usize) -> &[u8]
-    ensures { front result.now ≡ amount_at file.now place }
-{
-    guarded_amount(part_of(skip(file, place), 0))
-}
-
-// Where in the table of candidates the first stands whose guard bounds the amount; its end where none does.
-fn first_equal(file: &[u8], amount: &[u8], candidates: &[u16]) -> usize
-    ensures reads { drop result candidates.now ≡ equal_from file.now (front amount.now) candidates.now }
-    ensures within { result ≤ length candidates.now }
-{
-    let mut i = 0;
-    while 1 < candidates.len() - i {
-        if expr_eq(amount_at(file, number_at(candidates, i)), amount) {
-            return i;
-        }
-        i += 2;
-    }
-    candidates.len()
-}
-
-// Whether the candidate at i of the table covers the amount for the token: its guard bounds the amount, and its state field holds
-// the token.
-fn covers_amount(
+// The state field of that name, if one of the lowerings of a table lowers it and it holds the token.
+fn named_reserve(
     file: &[u8],
-    candidates: &[u16],
-    i: usize,
-    amount: &[u8],
+    name: &[u8],
     token: &[u8],
-    facts: &mut [u16],
-    scratch: &mut [u16],
-) -> bool
-    requires known { Known file.now facts.old scratch.old }
-    requires inside { i < length candidates.now }
-    ensures covers { result ≡ expr_eq (amount_at file.now (get_or candidates.now i 0)) (front amount.now) && holds_token file.now token.now (get_or candidates.now (i + 1) 0) }
-    ensures known { Known file.now facts.new scratch.new }
-{
-    if !expr_eq(amount_at(file, number_at(candidates, i)), amount) {
-        return false;
-    }
-    holds_token(file, number_at(candidates, i + 1), token, facts, scratch)
-}
-
-// The state field of the first candidate that does. One whose field does not hold the token does not stop the search.
-fn first_covering(
-    file: &[u8],
-    amount: &[u8],
-    token: &[u8],
-    candidates: &[u16],
+    lowerings: &[u16],
     facts: &mut [u16],
     scratch: &mut [u16],
 ) -> Reserve
-    requires { Known file.now facts.old scratch.old }
-    ensures found { index_of result ≡ first_covering file.now (front amount.now) (holds_token file.now token.now) candidates.now }
+    requires known { Known file.now facts.old scratch.old }
+    ensures found { index_of result ≡ named_reserve file.now token.now lowerings.now name.now }
+    ensures known { Known file.now facts.new scratch.new }
+{
+    if !is_lowered(file, lowerings, name) {
+        return Reserve::Nothing;
+    }
+    let number = state_number(file, name);
+    if number == 0 {
+        return Reserve::Nothing;
+    }
+    if !holds_token(file, number - 1, token, facts, scratch) {
+        return Reserve::Nothing;
+    }
+    Reserve::Covers { index: number - 1 }
+}
+
+// That of the first guard that bounds the amount and whose state field covers it, from the one at the front of guards on. One
+// whose field does not cover does not stop the search.
+fn first_covering(
+    file: &[u8],
+    guards: &[u8],
+    amount: &[u8],
+    token: &[u8],
+    lowerings: &[u16],
+    facts: &mut [u16],
+    scratch: &mut [u16],
+) -> Reserve
+    requires known { Known file.now facts.old scratch.old }
+    ensures found { index_of result ≡ first_covering file.now token.now lowerings.now (bounding_from (front amount.now) guards.now) }
     ensures facts { Facts file.now facts.new }
 {
-    let mut i = 0;
-    while 1 < candidates.len() - i {
-        if covers_amount(file, candidates, i, amount, token, facts, scratch) {
-            return Reserve::Covers {
-                index: number_at(candidates, i + 1),
-            };
+    let mut t = guards;
+    while is_whole(t) {
+        let name = guarded_field(part_of(t, 0));
+        match named_reserve(file, name, token, lowerings, facts, scratch) {
+            Reserve::Covers { index } => return Reserve::Covers { index: index },
+            Reserve::Nothing => {}
         }
-        i += 2;
+        let u = first_guard(after_front(t), amount);
+        t = u;
     }
     Reserve::Nothing
 }
 
-// The same for the amount of the k-th payout and its token, where the amount contains what comes in with the entry; else nothing.
-fn first_contained(
+// The same by what lowers a state field by the amount in the entry at a place of the file, which is listed first.
+fn first_lowered(
     file: &[u8],
-    entry: Entry,
-    k: usize,
+    place: usize,
+    guards: &[u8],
     amount: &[u8],
-    candidates: &[u16],
+    token: &[u8],
     facts: &mut [u16],
     scratch: &mut [u16],
 ) -> Reserve
     requires known { Known file.now facts.old scratch.old }
-    requires within { length amount.now ≤ length file.now }
-    ensures found { index_of result ≡ first_contained file.now entry.place entry.paid k (front amount.now) candidates.now }
+    ensures found { index_of result ≡ first_covering file.now token.now (lowering_numbers (front amount.now) (placed_at file.now place)) (bounding_from (front amount.now) guards.now) }
     ensures facts { Facts file.now facts.new }
 {
-    if !contains_inflow(skip(file, entry.place), amount, scratch) {
-        return Reserve::Nothing;
-    }
-    let token = asked_token(file, &entry.paid, k);
-    first_covering(file, amount, token, candidates, facts, scratch)
+    let mut lowerings = [0u16; LOWERINGS];
+    let count = list_lowerings(file, place, amount, &mut lowerings);
+    first_covering(
+        file,
+        guards,
+        amount,
+        token,
+        &lowerings[..count],
+        facts,
+        scratch,
+    )
 }
 
-// The state field that covers the k-th payout's amount for its token. Most payouts have no candidate, and then the amount need not
-// be looked into.
+// The state field that covers the amount of the k-th payout for its token. The calls of the file that fund a map are listed before a
+// field's token is worked out, since its raises may come from maps.
 pub fn reserve_bounding_payout(
     file: &[u8],
     entry: Entry,
     k: usize,
-    candidates: &[u16],
     facts: &mut [u16],
     scratch: &mut [u16],
 ) -> Reserve
     requires known { Known file.now facts.old scratch.old }
-    requires among { k < entry.payouts }
-    requires listed { Candidates file.now entry.place entry.paid entry.payouts candidates.now (length candidates.now) }
     ensures found { index_of result ≡ asked_reserve file.now entry.place entry.paid k }
     ensures facts { Facts file.now facts.new }
 {
-    let amount = asked_amount(file, &entry.paid, k);
-    let first = first_equal(file, amount, candidates);
-    if candidates.len() <= first {
+    let token = asked_token(file, &entry.paid, k);
+    if token.len() == 0 {
         return Reserve::Nothing;
     }
-    first_contained(file, entry, k, amount, &candidates[first..], facts, scratch)
+    let amount = asked_amount(file, &entry.paid, k);
+    let here = skip(file, entry.place);
+    let guards = first_guard(parts_of(here), amount);
+    if !is_whole(guards) {
+        return Reserve::Nothing;
+    }
+    if !contains_inflow(here, amount, scratch) {
+        return Reserve::Nothing;
+    }
+    let listed = list_facts(file, facts, scratch);
+    first_lowered(file, entry.place, guards, amount, token, facts, scratch)
 }

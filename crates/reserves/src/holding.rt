@@ -7,23 +7,15 @@ ghost use Rattle.fundings.specs.Funded.{state_fields, remembered_at};
 ghost use Rattle.fields.specs.Field.{fields};
 ghost use Rattle.reserve_tokens.specs.ReserveTokens.{reserve_token};
 ghost use Rattle.reserve_tokens.specs.Numbers.{reserve_number};
-ghost use Rattle.reserves.specs.Holding.{state_name, is_token, holds_token, Facts, Known};
+ghost use Rattle.reserves.specs.States.{state_name};
+ghost use Rattle.reserves.specs.Holding.{is_token, holds_token, Facts, Known};
 
+use super::state::state_name;
 use fields::bytes::same_bytes;
-use fields::front::nth_from;
 use fields::table::number_at;
 use fundings::facts::STATE_FIELDS;
-use model::name_of;
 use reserve_tokens::reserve::reserve_number;
-use tags::STATE;
 use tokens::number::{NOT_YET, token_of};
-
-// The name of the state field of that number; no bytes where there is none.
-pub fn state_name(file: &[u8], index: usize) -> &[u8]
-    ensures { result.now ≡ state_name file.now index }
-{
-    name_of(nth_from(file, STATE, STATE, index))
-}
 
 // Whether u is a known token and t.
 fn is_token(t: &[u8], u: &[u8]) -> bool

@@ -1,16 +1,15 @@
--- None that was passed lowers the field, so those that are left decide.
-use Rattle.laws.proofs.Seeking.{seeking-none}
-use Rattle.fields.proofs.AtPlaces.{fields-any, field_found, field-on}
+-- Those that were passed lower another field, so those that are left decide.
+use Rattle.guards.proofs.lowering.is_lowered.Invariants.{none-passed, all-passed, one-found, one-passed}
 use Rattle.guards.proofs.lowering.is_lowered.Goals as goal
 
 pub loop-i-init : goal.loop-i-init
-loop-i-init c = search fields-any
+loop-i-init c = search none-passed
 
-pub returns-then-may_lower : goal.returns-then-may_lower
-returns-then-may_lower c = search field_found
+pub returns-then-has_target : goal.returns-then-has_target
+returns-then-has_target c = search one-found
 
 pub loop-i-preserved : goal.loop-i-preserved
-loop-i-preserved c = search field-on
+loop-i-preserved c = search one-passed
 
 pub returns : goal.returns
-returns c = search seeking-none
+returns c = search all-passed

@@ -1,0 +1,24 @@
+-- Those that were passed have another name, and so are counted.
+use Rattle.std.proofs.Common.{rules}
+use Rattle.laws.proofs.Told.{told}
+use Rattle.fields.proofs.Rows.{from_less}
+use Rattle.reserves.proofs.state.state_number.Invariants.{none_passed, none_left, found, fits, one_more}
+use Rattle.reserves.proofs.state.state_number.Goals as goal
+
+pub loop-t-init : goal.loop-t-init
+loop-t-init c = search none_passed
+
+pub returns-then-same_bytes : goal.returns-then-same_bytes
+returns-then-same_bytes c = search found
+
+pub overflow_add-n : goal.overflow_add-n
+overflow_add-n c = search (fits, rules)
+
+pub loop-t-smaller : goal.loop-t-smaller
+loop-t-smaller c = search (from_less, told)
+
+pub loop-t-preserved : goal.loop-t-preserved
+loop-t-preserved c = search one_more
+
+pub returns : goal.returns
+returns c = search (none_left, told)

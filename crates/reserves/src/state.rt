@@ -1,0 +1,34 @@
+// SPDX-License-Identifier: Apache-2.0 OR MIT
+// State fields by their names and by their numbers among all.
+ghost use Rattle.std.specs.Prelude.{◌≡◌};
+ghost use Rattle.fields.specs.Field.{fields};
+ghost use Rattle.reserves.specs.States.{state_name, state_number};
+
+use fields::bytes::same_bytes;
+use fields::front::{after_front, first_from, is_whole, nth_from};
+use model::name_of;
+use tags::STATE;
+
+// The name of the state field of that number; no bytes where there is none.
+pub fn state_name(file: &[u8], index: usize) -> &[u8]
+    ensures { result.now ≡ state_name file.now index }
+{
+    name_of(nth_from(file, STATE, STATE, index))
+}
+
+// The number of the first state field of that name, counted from 1; 0 where none has it.
+pub fn state_number(file: &[u8], name: &[u8]) -> usize
+    ensures { result ≡ state_number (fields file.now) name.now }
+{
+    let mut t = first_from(file, STATE, STATE);
+    let mut n = 1;
+    while is_whole(t) {
+        if same_bytes(name, name_of(t)) {
+            return n;
+        }
+        let u = first_from(after_front(t), STATE, STATE);
+        t = u;
+        n += 1;
+    }
+    0
+}
