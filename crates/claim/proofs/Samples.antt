@@ -25,7 +25,7 @@ use Rattle.guards.specs.Guards.{contains_inflow, guarded_field, guarded_amount, 
 use Rattle.guards.specs.Payouts.{payout_token, payout_amount}
 use Rattle.reserves.specs.Reserves.{reserve_covers, reserve_bounding_payout}
 use Rattle.matching.specs.Matching.{debit_backings, parameter_backings, backings, equals, bounds, take_backing, take_reserve, by_reserve, by_bounding, not_taken, by_equal, answer, start}
-use Rattle.reserves.specs.Candidates.{state_index}
+use Rattle.reserves.specs.States.{state_index}
 use Rattle.reserves.specs.Covers.{index_in}
 use Rattle.claim.specs.Verdict.{Verdict, match_from, matching, backing_count, entry_at, ask_entry, entry_verdict, verdict, kind, index, sheet, written}
 use Rattle.claim.specs.Reserve.{payout_reserve}

@@ -8,7 +8,7 @@ use Rattle.model.specs.Model.{entries}
 use Rattle.model.specs.Shown.{shown}
 use Rattle.model.proofs.Accessors.{shown-nth}
 use Rattle.questions.specs.Questions.{passes, ask_file}
-use Rattle.reserves.specs.Holding.{Facts}
+use Rattle.reserves.specs.Holding.{Facts, Known}
 use Rattle.claim.specs.Verdict.{entry_at, verdict}
 use Rattle.claim.proofs.Fitting.{short-file}
 use Rattle.verdict.specs.Place.{Found}
@@ -17,40 +17,38 @@ use Rattle.verdict.proofs.Asking.{place-nowhere, place-there, entry-missing, ent
 use Rattle.output.specs.Output.{Written}
 use Rattle.output.proofs.Buffer.{written_none, written-within, same-room, written_then}
 use Rattle.contract.specs.Records.{recorded, verdict_on, record_on, below, largest, covers_enough}
-use Rattle.contract.specs.Coded.{Askable, entry_in, verdict_in}
+use Rattle.contract.specs.Coded.{entry_in, verdict_in}
 use Rattle.contract.specs.Each.{record_count, each_record, outcome_on, largest_of_each, EachRecorded, Extensible, OneMore}
 use Rattle.contract.specs.declared.records.Recorded.{Recorded}
 use Rattle.contract.proofs.Passed.{few-entries}
 use Rattle.contract.proofs.Below.{each-then}
 
 -- t is the file from the next entry on
-pub record Recording (file lent spread before table scratch out facts t : List ℕ) (x : Recorded) : Type 0 where
+pub record Recording (file lent before scratch out facts t : List ℕ) (x : Recorded) : Type 0 where
   pub passed : ask_file file ≡ passes
-  pub asked : Askable file table facts scratch
-  pub tables : length table ≡ length lent
-  pub others : length scratch ≡ length spread
+  pub known : Known file facts scratch
+  pub same : length scratch ≡ length lent
   pub here : t ≡ from_nth Entry Entry x.count file
   pub counted : x.count ≤ length (entries (fields file))
   pub worst : x.outcome ≡ largest (outcome_on file) x.count
   pub bytes : Written (flat_map (record_on file) (below x.count)) before 0 out x.end
 
-module _ (file lent spread before : List ℕ) where
-  pub recording-none : ask_file file ≡ passes → length file ≤ 3 * length lent → length file ≤ 3 * length spread → (facts : List ℕ) → Facts file facts →
-      (t : List ℕ) → t ≡ from Entry Entry file → Recording file lent spread before lent spread before facts t (record { outcome = 0; count = 0; end = 0 })
+module _ (file lent before : List ℕ) where
+  pub recording-none : ask_file file ≡ passes → length file ≤ 3 * length lent → (facts : List ℕ) → Facts file facts →
+      (t : List ℕ) → t ≡ from Entry Entry file → Recording file lent before lent before facts t (record { outcome = 0; count = 0; end = 0 })
   unfolding from_nth largest below flat_map
-  recording-none p r l facts q t e =
+  recording-none p l facts q t e =
       record {
         passed = p;
-        asked = record { room = r; known = record { short = short-file file p; room = l; right = q } };
-        tables = refl;
-        others = refl;
+        known = record { short = short-file file p; room = l; right = q };
+        same = refl;
         here = e;
         counted = omega arith;
         worst = refl;
         bytes = written_none before 0 (omega arith);
       }
 
-  module _ (table scratch out facts t : List ℕ) (x : Recorded) (i : Recording file lent spread before table scratch out facts t x) where
+  module _ (scratch out facts t : List ℕ) (x : Recorded) (i : Recording file lent before scratch out facts t x) where
     shown-here : shown file t ≡ take 1 (drop x.count (entries (fields file)))
     unfolding entries
     shown-here = shown-nth Entry Entry x.count file t i.here
@@ -95,19 +93,15 @@ module _ (file lent spread before : List ℕ) where
           rw (record_on, e, verdict-here)
 
       pub recording_on : (v : List ℕ) (y : Recorded) → OneMore file t out v x y → (held : List ℕ) → Facts file held →
-          (last : List ℕ) → length last ≡ length table → (used : List ℕ) → length used ≡ length scratch →
-          (s next : List ℕ) → s ≡ after t → next ≡ from Entry Entry s → Recording file lent spread before last used v held next y
+          (used : List ℕ) → length used ≡ length scratch →
+          (s next : List ℕ) → s ≡ after t → next ≡ from Entry Entry s → Recording file lent before used v held next y
       unfolding from_nth largest below
-      recording_on v y o held q last same used equal s next e f =
+      recording_on v y o held q used equal s next e f =
           let one : y.count ≡ suc x.count = omega (arith, o.many) in
           record {
             passed = i.passed;
-            asked = record {
-              room = omega (arith, i.asked.room, same);
-              known = record { short = i.asked.known.short; room = omega (arith, i.asked.known.room, equal); right = q };
-            };
-            tables = omega (arith, i.tables, same);
-            others = omega (arith, i.others, equal);
+            known = record { short = i.known.short; room = omega (arith, i.known.room, equal); right = q };
+            same = omega (arith, i.same, equal);
             here = rw (one, ← i.here, ← e) f;
             counted = omega (arith, there, one);
             worst = rw (one, verdict-here, ← i.worst) o.what;

@@ -2,7 +2,6 @@
 use Rattle.std.specs.Prelude.{ℕ, ◌-◌, ◌*◌, ◌≤◌, ◌≡◌, cond, List, [], ◌∷◌, ◌++◌, eqb, length, take}
 use Rattle.fields.specs.Field.{Field, fields}
 use Rattle.walking.specs.Table.{placed_at}
-use Rattle.reserves.specs.Holding.{Known}
 use Rattle.entries.specs.Entered.{entry_of}
 use Rattle.claim.specs.Verdict.{Verdict, outcome}
 use Rattle.verdict.specs.Coded.{placed_verdict}
@@ -27,12 +26,6 @@ entry_in file t = entry_of file (length file - length t)
 
 abbrev pub verdict_in : (file t : List ℕ) → Verdict
 verdict_in file t = placed_verdict (fields file) (placed_at file (length file - length t)) covers_enough
-
--- an entry of a file can be asked about: the table has a number for each three bytes of a file that passes question 1, and what
--- is known of the whole file is right
-pub record Askable (file table facts scratch : List ℕ) : Type 0 where
-  pub room : length file ≤ 3 * length table
-  pub known : Known file facts scratch
 
 -- the numbers, with the covers among some bytes, make the record of the entry at the front of t
 pub record Told (file t covers : List ℕ) (r : Numbers) : Type 0 where

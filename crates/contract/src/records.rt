@@ -1,10 +1,10 @@
 // The records of a file, one behind the other.
 ghost use Rattle.std.specs.Prelude.{◌≡◌, cond, ◌*◌, ◌≤◌, ltb, length};
 ghost use Rattle.questions.specs.Questions.{passes, ask_file};
-ghost use Rattle.reserves.specs.Holding.{Facts};
+ghost use Rattle.reserves.specs.Holding.{Facts, Known};
 ghost use Rattle.output.specs.Output.{Written};
 ghost use Rattle.contract.specs.Records.{two_bytes, covers_enough};
-ghost use Rattle.contract.specs.Coded.{head_of, record_of, CoversIn, Askable, Told};
+ghost use Rattle.contract.specs.Coded.{head_of, record_of, CoversIn, Told};
 ghost use Rattle.contract.specs.Each.{EachRecorded, AllRecorded, RefusalRecorded, Extensible, Appended, OneMore};
 
 use fields::bytes::keep;
@@ -20,6 +20,7 @@ use walking::walk::MOST_FIELDS;
 
 // 64 payouts, the most that question 10 allows, have three bytes of covers each.
 const COVERS: usize = 192;
+
 // Of the records that are written: the largest of what the verdicts are, how many they are, and where the next one goes.
 #[derive(Drop)]
 pub struct Recorded {
@@ -87,44 +88,41 @@ fn append(numbers: Numbers, covers: &[u8], out: &mut [u8], earlier: Recorded) ->
 fn entry_numbers(
     file: &[u8],
     t: &[u8],
-    table: &mut [u16],
     facts: &mut [u16],
     scratch: &mut [u16],
     covers: &mut [u8],
 ) -> Numbers
-    requires askable { Askable file.now table.old facts.old scratch.old }
+    requires known { Known file.now facts.old scratch.old }
     requires covers { length covers.old ≡ covers_enough }
     ensures told { Told file.now t.now covers.new result }
     ensures facts { Facts file.now facts.new }
 {
     let place = less(file.len(), t.len());
-    numbers_of(placed_verdict(file, place, table, facts, scratch, covers))
+    numbers_of(placed_verdict(file, place, facts, scratch, covers))
 }
 
 // Writes the record of that entry behind those of the earlier ones.
 fn one_more(
     file: &[u8],
     t: &[u8],
-    table: &mut [u16],
     facts: &mut [u16],
     scratch: &mut [u16],
     out: &mut [u8],
     earlier: Recorded,
 ) -> Recorded
-    requires askable { Askable file.now table.old facts.old scratch.old }
+    requires known { Known file.now facts.old scratch.old }
     requires room { Extensible out.old earlier }
     ensures more { OneMore file.now t.now out.old out.new earlier result }
     ensures facts { Facts file.now facts.new }
 {
     let mut covers = [0u8; COVERS];
-    let numbers = entry_numbers(file, t, table, facts, scratch, &mut covers);
+    let numbers = entry_numbers(file, t, facts, scratch, &mut covers);
     append(numbers, &covers, out, earlier)
 }
 
 // Writes the records of all entries of a file that passes questions 1 to 8. What the verdicts share is worked out once.
-fn entry_records(file: &[u8], table: &mut [u16], scratch: &mut [u16], out: &mut [u8]) -> Recorded
+fn entry_records(file: &[u8], scratch: &mut [u16], out: &mut [u8]) -> Recorded
     requires passed { ask_file file.now ≡ passes }
-    requires table { length file.now ≤ 3 * length table.old }
     requires scratch { length file.now ≤ 3 * length scratch.old }
     ensures { EachRecorded file.now out.old out.new result }
 {
@@ -136,7 +134,7 @@ fn entry_records(file: &[u8], table: &mut [u16], scratch: &mut [u16], out: &mut 
         end: 0,
     };
     while is_whole(t) {
-        let more = one_more(file, t, table, &mut facts, scratch, out, recorded);
+        let more = one_more(file, t, &mut facts, scratch, out, recorded);
         recorded = more;
         let u = first_from(after_front(t), ENTRY, ENTRY);
         t = u;
@@ -169,13 +167,11 @@ pub fn each_record(file: &[u8], out: &mut [u8]) -> Recorded
         return refusal_record(number as usize, place, out);
     }
     if file.len() <= SHORT_FILE {
-        let mut table = [0u16; SHORT_FIELDS];
         let mut scratch = [0u16; SHORT_FIELDS];
-        return entry_records(file, &mut table, &mut scratch, out);
+        return entry_records(file, &mut scratch, out);
     }
-    let mut table = [0u16; MOST_FIELDS];
     let mut scratch = [0u16; MOST_FIELDS];
-    entry_records(file, &mut table, &mut scratch, out)
+    entry_records(file, &mut scratch, out)
 }
 
 // The same with the refusal of question 9 where there are no entries. Such a file is not accepted: nothing was found out about the

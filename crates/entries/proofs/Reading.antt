@@ -141,8 +141,3 @@ entered file e r h g =
       listed = r.listed g;
       named = r.named g;
     }
-
--- the table is still lent
-pub lent-there : (file : List ℕ) (place : ℕ) (old : List ℕ) → Lent file place old → (n : ℕ) → n ≡ place → (table : List ℕ) → length table ≡ length old →
-    Lent file n table
-lent-there file place old l n e table same = record { small = l.small; inside = rw e l.inside; room = rw same l.room }

@@ -15,7 +15,7 @@ use Rattle.guards.specs.Asked.{asked_token, paid_at, asked_amount}
 use Rattle.entries.specs.Entered.{entry_of}
 use Rattle.entries.specs.declared.entry.Entry.{Entry}
 use Rattle.reserves.specs.Reserves.{reserve_bounding_payout}
-use Rattle.reserves.specs.Candidates.{state_index}
+use Rattle.reserves.specs.States.{state_index}
 use Rattle.reserves.specs.Covers.{index_of, index_in}
 use Rattle.reserves.specs.declared.covering.Reserve.{Reserve as Reserved}
 use Rattle.reserves.specs.declared.covering.Reserve.TheVariants.{Covers, Nothing}
@@ -83,7 +83,7 @@ bounds-amount p b = refl
 
 -- The steps for the k-th payout, as the code reads it
 
-module _ (file : List ℕ) (en : Entry) (candidates facts : List ℕ) (pass : Pass) (k : ℕ) (w : Ready file en candidates facts pass k) where
+module _ (file : List ℕ) (en : Entry) (facts : List ℕ) (pass : Pass) (k : ℕ) (w : Ready file en facts pass k) where
   abbrev model : Fields
   model = fields file
 

@@ -203,7 +203,7 @@ module _ (file : List ℕ) (en : Entry) (t : Entered file en) (m : Coded) (room 
           }
 
 -- and for all marks that the code's stand for
-module _ (file : List ℕ) (en : Entry) (candidates facts : List ℕ) (pass : Pass) (k : ℕ) (w : Ready file en candidates facts pass k) (n : ℕ)
+module _ (file : List ℕ) (en : Entry) (facts : List ℕ) (pass : Pass) (k : ℕ) (w : Ready file en facts pass k) (n : ℕ)
     (a : Answer) (e : a ≡ coded (at_payout answer file en pass.marks k)) (after : Coded) (g : after ≡ after_answer pass.marks en.debits a) where
   pub answers-all : AnswersFor file en pass.marks k (record { answer = a; pass = record { marks = after; admitted = n } })
   answers-all before v =

@@ -1,9 +1,8 @@
--- What the answer for a payout rests on: the entry with its tables, what is known of the file, and the pass so far.
-use Rattle.std.specs.Prelude.{ℕ, ◌<◌, List, length, get_or, drop}
+-- What the answer for a payout rests on: the entry, what is known of the file, and the pass so far.
+use Rattle.std.specs.Prelude.{ℕ, ◌<◌, List, get_or, drop}
 use Rattle.fields.specs.Field.{Field, front}
 use Rattle.entries.specs.Entered.{Entered}
 use Rattle.entries.specs.declared.entry.Entry.{Entry}
-use Rattle.reserves.specs.Candidates.{Candidates}
 use Rattle.reserves.specs.Holding.{Facts}
 use Rattle.backings.specs.Tables.{Admitted}
 use Rattle.matching.specs.declared.answer.Pass.{Pass}
@@ -12,15 +11,14 @@ use Rattle.matching.specs.declared.answer.Pass.{Pass}
 abbrev pub payout_at : List ℕ → Entry → ℕ → Field
 payout_at file e k = front (drop (get_or e.paid k 0) file)
 
--- the entry is past questions 10 and 11, the guards that can matter are listed, and what a table says of the file is right
-pub record Prepared (file : List ℕ) (e : Entry) (candidates facts : List ℕ) : Type 0 where
+-- the entry is past questions 10 and 11, and what a table says of the file is right
+pub record Prepared (file : List ℕ) (e : Entry) (facts : List ℕ) : Type 0 where
   pub entered : Entered file e
-  pub listed : Candidates file e.place e.paid e.payouts candidates (length candidates)
   pub known : Facts file facts
 
 -- there is a k-th payout, what is remembered of the token that the entry admits is right, and one more reserve finds room
-pub record Ready (file : List ℕ) (e : Entry) (candidates facts : List ℕ) (pass : Pass) (k : ℕ) : Type 0 where
-  pub prepared : Prepared file e candidates facts
+pub record Ready (file : List ℕ) (e : Entry) (facts : List ℕ) (pass : Pass) (k : ℕ) : Type 0 where
+  pub prepared : Prepared file e facts
   pub admits : Admitted file e.place pass.admitted
   pub among : k < e.payouts
   pub room : pass.marks.uses < 64

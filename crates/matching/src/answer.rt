@@ -122,16 +122,15 @@ fn by_reserve(
     entry: Entry,
     pass: Pass,
     k: usize,
-    candidates: &[u16],
     facts: &mut [u16],
     scratch: &mut [u16],
 ) -> Answer
-    requires ready { Ready file.now entry candidates.now facts.old pass k }
+    requires ready { Ready file.now entry facts.old pass k }
     requires scratch { length file.now ≤ 3 * length scratch.old }
     ensures answers { result ≡ coded (at_payout by_reserve file.now entry pass.marks k) }
     ensures facts { Facts file.now facts.new }
 {
-    match reserve_bounding_payout(file, entry, k, candidates, facts, scratch) {
+    match reserve_bounding_payout(file, entry, k, facts, scratch) {
         Reserve::Nothing => Answer::Rejected {
             reason: Reason::NoReserve,
         },
@@ -153,11 +152,10 @@ fn by_bounding(
     entry: Entry,
     pass: Pass,
     k: usize,
-    candidates: &[u16],
     facts: &mut [u16],
     scratch: &mut [u16],
 ) -> Found
-    requires ready { Ready file.now entry candidates.now facts.old pass k }
+    requires ready { Ready file.now entry facts.old pass k }
     requires scratch { length file.now ≤ 3 * length scratch.old }
     ensures answers { result.answer ≡ coded (at_payout by_bounding file.now entry pass.marks k) }
     ensures facts { Facts file.now facts.new }
@@ -167,7 +165,7 @@ fn by_bounding(
     let i = first_bounding(file, entry, pass.marks, payout);
     if entry.total <= i {
         return Found {
-            answer: by_reserve(file, entry, pass, k, candidates, facts, scratch),
+            answer: by_reserve(file, entry, pass, k, facts, scratch),
             admitted: pass.admitted,
         };
     }
@@ -194,11 +192,10 @@ fn not_taken(
     entry: Entry,
     pass: Pass,
     k: usize,
-    candidates: &[u16],
     facts: &mut [u16],
     scratch: &mut [u16],
 ) -> Found
-    requires ready { Ready file.now entry candidates.now facts.old pass k }
+    requires ready { Ready file.now entry facts.old pass k }
     requires scratch { length file.now ≤ 3 * length scratch.old }
     ensures answers { result.answer ≡ coded (at_payout not_taken file.now entry pass.marks k) }
     ensures facts { Facts file.now facts.new }
@@ -212,7 +209,7 @@ fn not_taken(
             admitted: pass.admitted,
         };
     }
-    by_bounding(file, entry, pass, k, candidates, facts, scratch)
+    by_bounding(file, entry, pass, k, facts, scratch)
 }
 
 // The first free backing that equals the amount, rejecting if the tokens conflict. Else the rest.
@@ -221,11 +218,10 @@ fn by_equal(
     entry: Entry,
     pass: Pass,
     k: usize,
-    candidates: &[u16],
     facts: &mut [u16],
     scratch: &mut [u16],
 ) -> Found
-    requires ready { Ready file.now entry candidates.now facts.old pass k }
+    requires ready { Ready file.now entry facts.old pass k }
     requires scratch { length file.now ≤ 3 * length scratch.old }
     ensures answers { result.answer ≡ coded (at_payout by_equal file.now entry pass.marks k) }
     ensures facts { Facts file.now facts.new }
@@ -234,7 +230,7 @@ fn by_equal(
     let payout = nth_payout(file, &entry.paid, k);
     let i = first_equal(file, entry, pass.marks, payout);
     if entry.total <= i {
-        return not_taken(file, entry, pass, k, candidates, facts, scratch);
+        return not_taken(file, entry, pass, k, facts, scratch);
     }
     let compared = tokens_conflict(file, entry, i, payout, facts, pass.admitted, scratch);
     if compared.conflict {
@@ -259,11 +255,10 @@ fn cover_payout(
     entry: Entry,
     pass: Pass,
     k: usize,
-    candidates: &[u16],
     facts: &mut [u16],
     scratch: &mut [u16],
 ) -> Found
-    requires ready { Ready file.now entry candidates.now facts.old pass k }
+    requires ready { Ready file.now entry facts.old pass k }
     requires scratch { length file.now ≤ 3 * length scratch.old }
     ensures answers { result.answer ≡ coded (at_payout answer file.now entry pass.marks k) }
     ensures facts { Facts file.now facts.new }
@@ -277,7 +272,7 @@ fn cover_payout(
             admitted: pass.admitted,
         };
     }
-    by_equal(file, entry, pass, k, candidates, facts, scratch)
+    by_equal(file, entry, pass, k, facts, scratch)
 }
 
 // The marks after an answer.
@@ -296,18 +291,17 @@ pub fn answer_payout(
     entry: Entry,
     pass: Pass,
     k: usize,
-    candidates: &[u16],
     facts: &mut [u16],
     scratch: &mut [u16],
 ) -> Answered
-    requires ready { Ready file.now entry candidates.now facts.old pass k }
+    requires ready { Ready file.now entry facts.old pass k }
     requires scratch { length file.now ≤ 3 * length scratch.old }
     ensures answers { AnswersFor file.now entry pass.marks k result }
     ensures uses { result.pass.marks.uses ≤ pass.marks.uses + 1 }
     ensures facts { Facts file.now facts.new }
     ensures admits { Admitted file.now entry.place result.pass.admitted }
 {
-    let found = cover_payout(file, entry, pass, k, candidates, facts, scratch);
+    let found = cover_payout(file, entry, pass, k, facts, scratch);
     let answer = found.answer;
     let after = after_answer(pass.marks, entry.debits, answer);
     Answered {

@@ -2,7 +2,7 @@
 use Rattle.std.proofs.Common.{ℕ, ◌≡◌, refl, List, [], ◌∷◌, ◌++◌, map, replicate}
 use Rattle.tags.specs.Tag.{Entry, String}
 use Rattle.fields.proofs.Writing.{write, integer, identifier, times, nots}
-use Rattle.reserves.specs.Candidates.{state_index}
+use Rattle.reserves.specs.States.{state_index}
 use Rattle.claim.specs.Reserve.{payout_reserve}
 use Rattle.claim.proofs.Samples.{found, entry, state, asset, guard, in_asset, send, drawing, k11, k12, again}
 use Rattle.payout_reserve.specs.Answer.{ReserveAnswer, covered_by, entry_reserve, file_reserve}

@@ -1,6 +1,6 @@
 -- A payout that is not there asks for no token, so that no state field covers it; one that is there stands at its place in the
 -- table, which has room for all.
-use Rattle.std.proofs.Common.{ℕ, ◌*◌, ◌≤◌, ◌<◌, ◌≡◌, refl, ap, ◌∙◌, false, ◌&&◌, List, [], arith, length, get_or, set, replicate, take}
+use Rattle.std.proofs.Common.{ℕ, ◌≤◌, ◌<◌, ◌≡◌, refl, ap, ◌∙◌, false, ◌&&◌, List, [], arith, length, get_or, set, replicate, take}
 use mathlib.Core.Bool.{and-false}
 use mathlib.Core.Option.{Option, none}
 use lib.ListN.{length-replicate, get_or-eq_default}
@@ -16,17 +16,15 @@ use Rattle.walking.specs.Table.{most_fields, placed_at, places_of}
 use Rattle.walking.proofs.Calls.{payout-call}
 use Rattle.guards.specs.Guards.{contains_inflow, guarded_by, lowers}
 use Rattle.guards.specs.Payouts.{payout_token}
-use Rattle.guards.specs.Asked.{asked_token, paid_at, asked_amount, inflow_amounts}
+use Rattle.guards.specs.Asked.{asked_token, paid_at, asked_amount}
 use Rattle.entries.specs.Calls.{places_where}
 use Rattle.entries.specs.Entered.{entry_of, CallsOf, Lent}
 use Rattle.entries.proofs.Called.{where-counted, where-read, payouts-where}
 use Rattle.entries.proofs.Reading.{calls-fit, calls-part, calls-all, places-few, table-long, field-there}
 use Rattle.reserves.specs.Reserves.{reserve_covers, reserve_bounding_payout}
-use Rattle.reserves.specs.Candidates.{Candidates, candidate_numbers}
 use Rattle.reserves.specs.Covers.{index_in, asked_reserve}
 use Rattle.claim.specs.Claim.{payout_at}
 use Rattle.claim.specs.Reserve.{payout_reserve}
-use Rattle.verdict.proofs.Preparing.{numbers_fit, numbers-part, numbers-exact}
 
 -- Nothing is asked for
 
@@ -62,20 +60,6 @@ module _ (file : List ℕ) (place : ℕ) (small : length file ≤ 32768) where
 
     pub all-calls : CallsOf file place (take count calls)
     all-calls = calls-all file place (replicate most_fields 0) (table-lent inside) calls count l
-
-  module _ (paid last : List ℕ) (one : 1 ≤ length paid) (r : ℕ)
-      (p : Listed (candidate_numbers (fields file) (inflow_amounts file place paid 1) (placed_at file place)) (replicate most_fields 0) 0 last r) where
-    room : length file ≤ 3 * length (replicate {A = ℕ} most_fields 0)
-    room = omega (arith, small, length-replicate {A = ℕ} most_fields 0)
-
-    pub alone-fit : r ≤ length last
-    alone-fit = numbers_fit file place paid 1 one (replicate most_fields 0) last r p room
-
-    pub alone-part : r ≡ length (take r last)
-    alone-part = numbers-part file place paid 1 one (replicate most_fields 0) last r p room
-
-    pub alone-listed : Candidates file place paid 1 (take r last) (length (take r last))
-    alone-listed = numbers-exact file place paid 1 one (replicate most_fields 0) last r p room
 
 pub alone-asked : (file payouts : List ℕ) (place k x : ℕ) → x ≡ get_or payouts k 0 → (r : Option ℕ) →
     r ≡ asked_reserve file place (set (replicate 65 0) 0 x) 0 →

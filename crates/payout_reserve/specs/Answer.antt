@@ -4,7 +4,7 @@ use Rattle.std.specs.Prelude.{ℕ, List}
 use Rattle.std.proofs.Math.Option.{Option, none, some}
 use Rattle.fields.specs.Field.{Fields, fields}
 use Rattle.questions.specs.Questions.{passes, fails, ask_file}
-use Rattle.reserves.specs.Candidates.{state_index}
+use Rattle.reserves.specs.States.{state_index}
 use Rattle.claim.specs.Verdict.{entry_at, ask_exists}
 use Rattle.claim.specs.Reserve.{payout_reserve}
 use Rattle.payout_reserve.specs.declared.ReserveAnswer.{ReserveAnswer as CodedAnswer}

@@ -15,13 +15,12 @@ use entries::entry::Entry;
 use fundings::facts::nothing_known;
 use questions::check::Answer;
 use questions::file::check_file;
-use reserves::candidates::list_candidates;
 use reserves::covering::{Reserve, reserve_bounding_payout};
 use tags::CALL;
 use verdict::entry::{Place, place_of_entry};
 use walking::walk::{MOST_FIELDS, list_body};
 
-// That of the k-th payout of a table, in the entry at a place of the file. The guards are listed for this payout alone.
+// That of the k-th payout of a table, in the entry at a place of the file, by itself.
 fn reserve_for(file: &[u8], place: usize, payouts: &[u16], k: usize) -> Reserve
     requires short { length file.now ≤ 32768 }
     requires among { k < length payouts.now }
@@ -37,18 +36,9 @@ fn reserve_for(file: &[u8], place: usize, payouts: &[u16], k: usize) -> Reserve
         backed: [0u16; 64],
         paid: paid,
     };
-    let mut candidates = [0u16; MOST_FIELDS];
-    let mut scratch = [0u16; MOST_FIELDS];
-    let count = list_candidates(file, entry, &mut candidates, &mut scratch);
     let mut facts = nothing_known();
-    reserve_bounding_payout(
-        file,
-        entry,
-        0,
-        &candidates[..count],
-        &mut facts,
-        &mut scratch,
-    )
+    let mut scratch = [0u16; MOST_FIELDS];
+    reserve_bounding_payout(file, entry, 0, &mut facts, &mut scratch)
 }
 
 // That of the k-th payout among the calls of the entry at a place of the file.

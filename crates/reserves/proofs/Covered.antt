@@ -1,16 +1,16 @@
 -- The first of the guards that bound the amount whose state field is lowered and holds the token is the first that covers: every field
 -- that is tried stands in such a guard, and the amount contains what comes in.
-use Rattle.std.proofs.Common.{ℕ, zero, suc, ◌≤◌, ◌≡◌, refl, sym, ap, ◌∙◌, Bool, true, false, cond, ◌&&◌, ◌||◌, List, [], ◌∷◌, map, length, get_or, drop}
+use Rattle.std.proofs.Common.{ℕ, ◌≤◌, ◌≡◌, refl, ap, ◌∙◌, Bool, true, false, ◌&&◌, ◌||◌, List, [], ◌∷◌, map, length, drop}
 use mathlib.Core.Bool.{and-false}
-use mathlib.Core.Option.{Option, none}
-use Rattle.laws.proofs.Texts.{bytes-equal, bytes_same}
+use mathlib.Core.Option.{none}
+use Rattle.laws.proofs.Texts.{bytes_same}
 use Rattle.laws.specs.Texts.{same_bytes, known}
-use Rattle.laws.specs.Lists.{any, filter, find, position}
+use Rattle.laws.specs.Lists.{any, filter, find}
 use Rattle.laws.proofs.Truths.{or_right}
 use Rattle.laws.proofs.Lists.{map-filter, every-weaker, Every}
 use Rattle.laws.proofs.Finding.{find_none, find-same}
 use Rattle.tags.specs.Tag.{Guard}
-use Rattle.fields.specs.Field.{Field, Fields, fields, front, parts, part, fields_from}
+use Rattle.fields.specs.Field.{Field, fields, front, parts, part, fields_from}
 use Rattle.model.specs.Model.{state_names, body}
 use Rattle.walking.specs.Walking.{guards}
 use Rattle.walking.specs.Table.{placed_at}
@@ -18,7 +18,7 @@ use Rattle.equality.specs.Equality.{expr_eq}
 use Rattle.reserve_tokens.specs.ReserveTokens.{reserve_token}
 use Rattle.guards.specs.Guards.{contains_inflow, guarded_field, guarded_amount, guarded_by, lowers}
 use Rattle.guards.specs.Bounding.{bounds, bounding}
-use Rattle.guards.specs.Lowerings.{lowering_numbers, lowered_in}
+use Rattle.guards.specs.Lowerings.{lowering_numbers}
 use Rattle.guards.specs.Asked.{asked_token, asked_amount}
 use Rattle.guards.proofs.Lowerings.{lowerings-decide}
 use Rattle.reserves.specs.Reserves.{reserve_covers, reserve_bounding_payout}

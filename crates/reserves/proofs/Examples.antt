@@ -4,7 +4,7 @@ use mathlib.Core.Option.{Option}
 use Prim.Native.String.{String}
 use mathlib.Core.List.{flat_map}
 use mathlib.Core.Option.{none, some}
-use Rattle.laws.specs.Lists.{any, all, filter, find, position}
+use Rattle.laws.specs.Lists.{any, all, filter, find}
 use Rattle.laws.specs.Texts.{same_bytes, bytes, known}
 use Rattle.tags.specs.Tag.{State, Entry, Parameter, Guard, Set, AddTo, SubtractFrom, InAsset, Member, Checked, Wrapping, And, Eq, Lt, Gt, Le, Ge, Sub, Mul, composite, is_assign}
 use Rattle.tags.specs.Tag.{is_expression, is_statement, is_wrapper}

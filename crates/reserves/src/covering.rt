@@ -39,7 +39,7 @@ fn named_reserve(
     facts: &mut [u16],
     scratch: &mut [u16],
 ) -> Reserve
-    requires known { Known file.now facts.old scratch.old }
+    requires { Known file.now facts.old scratch.old }
     ensures found { index_of result ≡ named_reserve file.now token.now lowerings.now name.now }
     ensures known { Known file.now facts.new scratch.new }
 {
@@ -67,7 +67,7 @@ fn first_covering(
     facts: &mut [u16],
     scratch: &mut [u16],
 ) -> Reserve
-    requires known { Known file.now facts.old scratch.old }
+    requires { Known file.now facts.old scratch.old }
     ensures found { index_of result ≡ first_covering file.now token.now lowerings.now (bounding_from (front amount.now) guards.now) }
     ensures facts { Facts file.now facts.new }
 {
@@ -94,7 +94,7 @@ fn first_lowered(
     facts: &mut [u16],
     scratch: &mut [u16],
 ) -> Reserve
-    requires known { Known file.now facts.old scratch.old }
+    requires { Known file.now facts.old scratch.old }
     ensures found { index_of result ≡ first_covering file.now token.now (lowering_numbers (front amount.now) (placed_at file.now place)) (bounding_from (front amount.now) guards.now) }
     ensures facts { Facts file.now facts.new }
 {
@@ -120,7 +120,7 @@ pub fn reserve_bounding_payout(
     facts: &mut [u16],
     scratch: &mut [u16],
 ) -> Reserve
-    requires known { Known file.now facts.old scratch.old }
+    requires { Known file.now facts.old scratch.old }
     ensures found { index_of result ≡ asked_reserve file.now entry.place entry.paid k }
     ensures facts { Facts file.now facts.new }
 {

@@ -2,4 +2,3 @@ pub mod Asking
 pub mod Written
 pub mod Running
 pub mod Placing
-pub mod Preparing

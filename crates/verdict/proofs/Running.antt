@@ -79,11 +79,11 @@ written_on cs c t u k m e h f =
 
 -- The pass so far
 
-pub record Running (file : List ℕ) (en : Entry) (candidates start facts lent scratch bytes : List ℕ) (pass : Pass) (k : ℕ) : Type 0 where
+pub record Running (file : List ℕ) (en : Entry) (start facts lent scratch bytes : List ℕ) (pass : Pass) (k : ℕ) : Type 0 where
   pub state : Marks
   pub done : List Cover
   pub reached : k ≤ en.payouts
-  pub prepared : Prepared file en candidates facts
+  pub prepared : Prepared file en facts
   pub held : length facts ≡ length start
   pub long : length scratch ≡ length lent
   pub room : length file ≤ 3 * length lent
@@ -97,9 +97,9 @@ pub record Running (file : List ℕ) (en : Entry) (candidates start facts lent s
   pub rest : matching (fields file) (entry_of file en.place)
       ≡ with_covers done (match_from (fields file) (entry_of file en.place) state k (drop k (payouts (entry_of file en.place))))
 
-module _ (file : List ℕ) (en : Entry) (candidates : List ℕ) where
-  pub running_none : (facts lent : List ℕ) → Prepared file en candidates facts → length file ≤ 3 * length lent → (m : Coded) → m ≡ all_free →
-      Running file en candidates facts facts lent lent (replicate 192 0) (record { marks = m; admitted = not_yet }) 0
+module _ (file : List ℕ) (en : Entry) where
+  pub running_none : (facts lent : List ℕ) → Prepared file en facts → length file ≤ 3 * length lent → (m : Coded) → m ≡ all_free →
+      Running file en facts facts lent lent (replicate 192 0) (record { marks = m; admitted = not_yet }) 0
   unfolding start matching sheet all_free
   running_none facts lent d room m e =
       let few : length (backings_of file en.place) ≤ 64 = omega (arith, backings-many file en d.entered, d.entered.few) in
@@ -121,7 +121,7 @@ module _ (file : List ℕ) (en : Entry) (candidates : List ℕ) where
         rest = refl;
       }
 
-  module _ (start facts lent scratch bytes : List ℕ) (pass : Pass) (k : ℕ) (v : Running file en candidates start facts lent scratch bytes pass k) where
+  module _ (start facts lent scratch bytes : List ℕ) (pass : Pass) (k : ℕ) (v : Running file en start facts lent scratch bytes pass k) where
     abbrev d : Entered file en
     d = v.prepared.entered
 
@@ -148,7 +148,7 @@ module _ (file : List ℕ) (en : Entry) (candidates : List ℕ) where
 
     module _ (h : k < en.payouts) where
       -- what the answer needs
-      pub running-ready : Ready file en candidates facts pass k
+      pub running-ready : Ready file en facts pass k
       running-ready = record { prepared = v.prepared; admits = v.admits; among = h; room = omega (arith, v.uses, h, d.limit) }
 
       -- there is room for the next three bytes
@@ -217,14 +217,14 @@ module _ (file : List ℕ) (en : Entry) (candidates : List ℕ) where
 
           pub running-on : r.pass.marks.uses ≤ pass.marks.uses + 1 → (last : List ℕ) → Facts file last → (used : List ℕ) → length used ≡ length scratch →
               (next : Pass) → next ≡ r.pass → Admitted file en.place r.pass.admitted → (u : List ℕ) → u ≡ sets bytes (3 * k) (cover_bytes (cover_of c)) →
-              Running file en candidates start last lent used u next (k + 1)
+              Running file en start last lent used u next (k + 1)
           running-on less last right used same-used next z admits u w =
               let three : u ≡ sets bytes (3 * k) (sheet (cover_of c ∷ [])) = w ∙ ap (λ l. sets bytes (3 * k) l) (bytes_of (cover_of c) index-small) in
               record {
                 state = answers.after;
                 done = v.done ++ cover_of c ∷ [];
                 reached = omega (arith, h);
-                prepared = record { entered = d; listed = v.prepared.listed; known = right };
+                prepared = record { entered = d; known = right };
                 held = running-kept last right;
                 long = same-used ∙ v.long;
                 room = v.room;

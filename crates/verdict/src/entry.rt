@@ -1,7 +1,7 @@
 // SPDX-License-Identifier: Apache-2.0 OR MIT
 // The verdict on an entry: it is read, questions 10 to 12 are asked, and then it is gone through payout by payout.
 ghost use Rattle.std.specs.Prelude.{◌≡◌, ◌-◌, ◌*◌, ◌≤◌, length};
-ghost use Rattle.entries.specs.Entered.{Lent, Read, Entered};
+ghost use Rattle.entries.specs.Entered.{Read, Entered};
 ghost use Rattle.reserves.specs.Holding.{Facts, Known};
 ghost use Rattle.matching.specs.Prepared.{Prepared};
 ghost use Rattle.verdict.specs.Place.{Found};
@@ -15,11 +15,10 @@ use fields::table::number_at;
 use fundings::facts::{list_facts, nothing_known};
 use matching::answer::{Answer, Pass, Reason, answer_payout};
 use model::nth_entry;
-use reserves::candidates::list_candidates;
 use tokens::number::NOT_YET;
 use walking::walk::MOST_FIELDS;
 
-// Most files are no longer than this, and need tables of a fifth of the size, which are sooner cleared.
+// Most files are no longer than this, and need a table of a fifth of the size, which is sooner cleared.
 pub const SHORT_FILE: usize = 6144;
 
 // A number for each three bytes of such a file.
@@ -48,12 +47,11 @@ pub fn less(a: usize, b: usize) -> usize
 fn match_payouts(
     file: &[u8],
     entry: Entry,
-    candidates: &[u16],
     facts: &mut [u16],
     scratch: &mut [u16],
     covers: &mut [u8],
 ) -> Verdict
-    requires prepared { Prepared file.now entry candidates.now facts.old }
+    requires prepared { Prepared file.now entry facts.old }
     requires scratch { length file.now ≤ 3 * length scratch.old }
     requires room { 3 * entry.payouts ≤ length covers.old }
     ensures answer { numbers_of result ≡ matched_answer file.now entry.place }
@@ -68,7 +66,7 @@ fn match_payouts(
     let count = entry.payouts;
     let mut k = 0;
     while k < count {
-        let answered = answer_payout(file, entry, pass, k, candidates, facts, scratch);
+        let answered = answer_payout(file, entry, pass, k, facts, scratch);
         let answer = answered.answer;
         match answer {
             Answer::Rejected { reason } => {
@@ -92,57 +90,46 @@ fn match_payouts(
     }
 }
 
-// Lists the calls of the file that fund a map, where a payout can ask for a map's token: that of a debit or, of a state field
-// that a guard bounds the amount by, those of the maps that its raises come from.
-fn list_if_asked(
-    file: &[u8],
-    debits: usize,
-    candidates: usize,
-    facts: &mut [u16],
-    scratch: &mut [u16],
-) -> usize
+// Lists the calls of the file that fund a map, where a debit may ask for its map's token. A reserve that asks for one has them listed by
+// itself.
+fn list_if_asked(file: &[u8], debits: usize, facts: &mut [u16], scratch: &mut [u16]) -> usize
     requires { Known file.now facts.old scratch.old }
     ensures { Facts file.now facts.new }
 {
-    if (debits == 0) & (candidates == 0) {
+    if debits == 0 {
         return 0;
     }
     list_facts(file, facts, scratch)
 }
 
-// The entry past questions 10 to 12. The table serves for the guards that can matter.
+// The entry past questions 10 to 12.
 fn cover_payouts(
     file: &[u8],
     entry: Entry,
-    table: &mut [u16],
     facts: &mut [u16],
     scratch: &mut [u16],
     covers: &mut [u8],
 ) -> Verdict
     requires entered { Entered file.now entry }
-    requires table { Lent file.now entry.place table.old }
     requires known { Known file.now facts.old scratch.old }
     requires room { 3 * entry.payouts ≤ length covers.old }
     ensures answer { numbers_of result ≡ matched_answer file.now entry.place }
     ensures covers { covers.new ≡ matched_covers file.now entry.place covers.old }
     ensures facts { Facts file.now facts.new }
 {
-    let count = list_candidates(file, entry, table, scratch);
-    let listed = list_if_asked(file, entry.debits, count, facts, scratch);
-    match_payouts(file, entry, &table[..count], facts, scratch, covers)
+    let listed = list_if_asked(file, entry.debits, facts, scratch);
+    match_payouts(file, entry, facts, scratch, covers)
 }
 
 // Questions 10 to 12 of the entry, and then its payouts, where there are some.
 fn asked_verdict(
     file: &[u8],
     entry: Entry,
-    table: &mut [u16],
     facts: &mut [u16],
     scratch: &mut [u16],
     covers: &mut [u8],
 ) -> Verdict
     requires read { Read file.now entry }
-    requires table { Lent file.now entry.place table.old }
     requires known { Known file.now facts.old scratch.old }
     ensures answer { numbers_of result ≡ placed_answer file.now entry.place (length covers.old) }
     ensures covers { covers.new ≡ placed_covers file.now entry.place covers.old }
@@ -172,27 +159,26 @@ fn asked_verdict(
             spare: entry.total,
         };
     }
-    cover_payouts(file, entry, table, facts, scratch, covers)
+    cover_payouts(file, entry, facts, scratch, covers)
 }
 
 // The verdict on the entry at a place of a file that passes question 1: question 10 and what comes behind it. The caller lends
-// two tables with a number for each three bytes of the file, and one for what is the same for all entries.
+// a table with a number for each three bytes of the file, and one for what is the same for all entries.
 pub fn placed_verdict(
     file: &[u8],
     place: usize,
-    table: &mut [u16],
     facts: &mut [u16],
     scratch: &mut [u16],
     covers: &mut [u8],
 ) -> Verdict
-    requires table { Lent file.now place table.old }
+    requires inside { place ≤ length file.now }
     requires known { Known file.now facts.old scratch.old }
     ensures answer { numbers_of result ≡ placed_answer file.now place (length covers.old) }
     ensures covers { covers.new ≡ placed_covers file.now place covers.old }
     ensures facts { Facts file.now facts.new }
 {
-    let entry = read_entry(file, place, table);
-    asked_verdict(file, entry, table, facts, scratch, covers)
+    let entry = read_entry(file, place, scratch);
+    asked_verdict(file, entry, facts, scratch, covers)
 }
 
 // The same with tables of its own. Most files are short, and a short table is soon cleared.
@@ -204,13 +190,11 @@ fn verdict_at(file: &[u8], place: usize, covers: &mut [u8]) -> Verdict
 {
     let mut facts = nothing_known();
     if file.len() <= SHORT_FILE {
-        let mut table = [0u16; SHORT_FIELDS];
         let mut scratch = [0u16; SHORT_FIELDS];
-        return placed_verdict(file, place, &mut table, &mut facts, &mut scratch, covers);
+        return placed_verdict(file, place, &mut facts, &mut scratch, covers);
     }
-    let mut table = [0u16; MOST_FIELDS];
     let mut scratch = [0u16; MOST_FIELDS];
-    placed_verdict(file, place, &mut table, &mut facts, &mut scratch, covers)
+    placed_verdict(file, place, &mut facts, &mut scratch, covers)
 }
 
 // Where the entry with a number stands in the file, if there is one.

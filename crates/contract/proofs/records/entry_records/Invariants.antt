@@ -4,7 +4,7 @@ use Rattle.contract.proofs.Recording.{Recording}
 use Rattle.contract.proofs.records.entry_records.Given as goal
 
 abbrev pub invariant-loop-t : goal.invariant-loop-t
-invariant-loop-t l = Recording l.file l.initial.table l.initial.scratch l.initial.out l.table l.scratch l.out l.facts l.t l.recorded
+invariant-loop-t l = Recording l.file l.initial.scratch l.initial.out l.scratch l.out l.facts l.t l.recorded
 
 abbrev pub decreases-loop-t : goal.decreases-loop-t
 decreases-loop-t l = length l.t

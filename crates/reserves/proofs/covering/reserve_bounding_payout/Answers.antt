@@ -1,10 +1,10 @@
 -- A payout without a known token, whose amount no guard bounds or which does not contain what comes in, has no reserve; else the first
 -- guard whose field covers decides.
-use Rattle.std.proofs.Common.{ℕ, ◌≤◌, ◌≡◌, refl, sym, ◌∙◌, Bool, true, false, not, cond, List, [], ◌∷◌, length, drop}
+use Rattle.std.proofs.Common.{ℕ, ◌≤◌, ◌≡◌, refl, sym, ◌∙◌, Bool, true, false, not, List, [], ◌∷◌, length, drop}
 use mathlib.Core.Option.{Option, none}
 use borrow.Author.Tests.{not-true, not-false}
 use Rattle.laws.specs.Texts.{known}
-use Rattle.fields.specs.Field.{Field, fields, whole, front, parts}
+use Rattle.fields.specs.Field.{fields, whole, front, parts}
 use Rattle.walking.specs.Table.{placed_at}
 use Rattle.guards.specs.Guards.{contains_inflow}
 use Rattle.guards.specs.Asked.{asked_token, asked_amount}
