@@ -1,3 +1,4 @@
+pub mod Arriving
 pub mod Agreeing
 pub mod Examples
 pub mod Shown

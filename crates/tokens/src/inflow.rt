@@ -2,12 +2,13 @@
 // What comes in with an asset parameter, and the calls that credit it.
 ghost use Rattle.std.specs.Prelude.{◌≡◌};
 ghost use Rattle.fields.specs.Field.{front};
+ghost use Rattle.walking.specs.Assets.{Assets};
 ghost use Rattle.tokens.specs.Tokens.{is_inflow, is_credit, is_funding};
 
 use fields::bytes::same_bytes;
 use fields::front::part_of;
 use walking::backer::asset_amount_backer;
-use walking::parameters::has_asset_parameter;
+use walking::parameters::{has_asset_parameter, has_listed_asset};
 use walking::peel::peel;
 use walking::shape::{method, receiver};
 
@@ -16,6 +17,14 @@ pub fn is_inflow(entry: &[u8], s: &[u8]) -> bool
     ensures { result ≡ is_inflow (front entry.now) (front s.now) }
 {
     has_asset_parameter(entry, asset_amount_backer(s))
+}
+
+// The same by the table in which the asset parameters of the entry are listed.
+pub fn is_listed_inflow(entry: &[u8], assets: &[u16], count: usize, s: &[u8]) -> bool
+    requires { Assets entry.now assets.now count }
+    ensures { result ≡ is_inflow (front entry.now) (front s.now) }
+{
+    has_listed_asset(entry, assets, count, asset_amount_backer(s))
 }
 
 // Whether a call of a member credit, set or insert stands at the front of s.

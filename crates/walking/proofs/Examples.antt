@@ -7,13 +7,15 @@ use Rattle.laws.specs.Lists.{filter}
 use Rattle.laws.specs.Texts.{bytes, same_bytes}
 use Rattle.tags.specs.Tag.{Entry, Parameter, Limits, Guard, Let, Set, ExpressionStatement, Identifier, Caller, Not, Member, Call}
 use Rattle.tags.specs.Tag.{Checked, Wrapping, Sub, Gt, composite, is_expression, is_statement, is_wrapper}
-use Rattle.fields.specs.Field.{fields, fields_to, front, nth, nothing, tag, part, row, fields_from, size, sizes, placed}
+use Rattle.fields.specs.Field.{fields, fields_to, front, nth, nothing, tag, part, row, fields_from, size, sizes, placed, placed_from}
+use Rattle.fields.specs.Number.{short_number, number_from}
 use Rattle.fields.proofs.Writing.{write, name, type_name, identifier}
 use Rattle.model.specs.Model.{params}
 use Rattle.walking.specs.Walking.{peel, peel_first, peel_place, peel_first_place, walk, walk_parts, stmt_exprs, body_exprs, exprs}
 use Rattle.walking.specs.Walking.{guards, ident, method, receiver, is_debit, is_payout, asset_amount_backer, is_asset_parameter}
 use Rattle.walking.specs.Walking.{asset_params, debits, payouts}
 use Rattle.walking.specs.Table.{places_of}
+use Rattle.walking.specs.Assets.{parameter_numbers, asset_numbers}
 
 -- the identifiers n and m, and m.debit
 abbrev n : List ℕ
@@ -129,11 +131,19 @@ unfolding fields fields_to nth composite same_bytes ident asset_amount_backer
 backers = refl
 
 -- asset parameters by their type, and not by their name
-assets : asset_params (front (write Entry (name "f" ++ (write Parameter (name "a" ++ type_name "Q_Asset")
-    ++ (write Parameter (name "Q_Asset" ++ type_name "Int") ++ write Parameter (name "b" ++ type_name "Q_Asset"))))))
-    ≡ bytes "a" ∷ bytes "b" ∷ []
-unfolding fields fields_to nth composite row fields_from filter same_bytes params is_asset_parameter asset_params
+two-assets : List ℕ
+two-assets =
+    write Entry (name "f" ++ (write Parameter (name "a" ++ type_name "Q_Asset")
+    ++ (write Parameter (name "Q_Asset" ++ type_name "Int") ++ write Parameter (name "b" ++ type_name "Q_Asset"))))
+
+assets : asset_params (front two-assets) ≡ bytes "a" ∷ bytes "b" ∷ []
+unfolding fields fields_to nth composite row fields_from filter same_bytes params is_asset_parameter asset_params two-assets
 assets = refl
+
+-- the two numbers of each
+listed-assets : asset_numbers (front two-assets) ≡ short_number (bytes "a") ∷ 7 ∷ short_number (bytes "b") ∷ 43 ∷ []
+unfolding fields fields_to nth composite size sizes placed placed_from flat_map filter same_bytes is_asset_parameter parameter_numbers asset_numbers number_from two-assets
+listed-assets = refl
 
 -- a body that debits and then sends, the send inside a let
 paying : List ℕ
