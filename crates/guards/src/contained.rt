@@ -3,6 +3,7 @@
 ghost use Rattle.std.specs.Prelude.{◌≡◌, ◌*◌, ◌≤◌, length};
 ghost use Rattle.fields.specs.Field.{front};
 ghost use Rattle.fields.specs.Table.{fields_at};
+ghost use Rattle.walking.specs.Assets.{Assets};
 ghost use Rattle.guards.specs.Guards.{contains_inflow};
 ghost use Rattle.guards.specs.Members.{members_in, member_inflow};
 
@@ -10,19 +11,24 @@ use fields::bytes::skip;
 use fields::front::tag_of;
 use fields::table::number_at;
 use tags::{MEMBER, is_expression};
-use tokens::inflow::is_inflow;
-use walking::parameters::has_asset_parameter;
+use tokens::inflow::is_listed_inflow;
+use walking::parameters::{has_listed_asset, list_assets};
 use walking::walk::list_expression;
 
+// Two numbers for each of the asset parameters that question 11 allows.
+const ASSETS: usize = 128;
+
 // Whether one of the members in the expression at the front of amount, all of which a table has, is an asset parameter's
-// `p.amount`.
-fn has_inflow(entry: &[u8], amount: &[u8], members: &[u16]) -> bool
-    requires { fields_at amount.now members.now ≡ members_in (front amount.now) }
+// `p.amount`. Another table has the asset parameters.
+fn has_inflow(entry: &[u8], assets: &[u16], count: usize, amount: &[u8], members: &[u16]) -> bool
+    requires assets { Assets entry.now assets.now count }
+    requires members { fields_at amount.now members.now ≡ members_in (front amount.now) }
     ensures { result ≡ member_inflow (front entry.now) (front amount.now) }
 {
     let mut i = 0;
     while i < members.len() {
-        if is_inflow(entry, skip(amount, number_at(members, i))) {
+        let member = skip(amount, number_at(members, i));
+        if is_listed_inflow(entry, assets, count, member) {
             return true;
         }
         i += 1;
@@ -34,13 +40,16 @@ fn has_inflow(entry: &[u8], amount: &[u8], members: &[u16]) -> bool
 // table, with a number for each three bytes of the amount, serves for them. A parameter without a name, which question 5 does not
 // let pass, is what any expression of another shape names.
 pub fn contains_inflow(entry: &[u8], amount: &[u8], scratch: &mut [u16]) -> bool
+    requires small { length entry.now ≤ 32768 }
     requires short { length amount.now ≤ 32768 }
     requires room { length amount.now ≤ 3 * length scratch.old }
     ensures { result ≡ contains_inflow (front entry.now) (front amount.now) }
 {
-    if has_asset_parameter(entry, &entry[..0]) {
+    let mut assets = [0u16; ASSETS];
+    let listed = list_assets(entry, &mut assets);
+    if has_listed_asset(entry, &assets, listed, &entry[..0]) {
         return is_expression(tag_of(amount));
     }
     let count = list_expression(amount, MEMBER, scratch);
-    has_inflow(entry, amount, &scratch[..count])
+    has_inflow(entry, &assets, listed, amount, &scratch[..count])
 }

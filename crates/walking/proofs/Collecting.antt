@@ -14,11 +14,11 @@ use Rattle.fields.specs.Number.{short_number}
 use Rattle.fields.specs.Table.{Listed}
 use Rattle.fields.specs.Field.{Placed, fields, length_of, whole, after, front, tag, parts, placed, placed_from, from}
 use Rattle.fields.proofs.Rows.{after-size, rest_of, from-shorter, from-placed, rest-next, placed_row}
-use Rattle.fields.proofs.Tables.{listed-none, listed_then, listed-long}
+use Rattle.fields.proofs.Tables.{listed-none, listed_then, listed-front, listed-long}
 use Rattle.fields.proofs.Inside.{Stands, parts-stand}
 use Rattle.model.specs.Model.{name_of, params}
 use Rattle.walking.specs.Walking.{is_asset_parameter, asset_params, without_places}
-use Rattle.walking.specs.Assets.{parameter_numbers, asset_numbers, named_by}
+use Rattle.walking.specs.Assets.{parameter_numbers, asset_numbers, named_by, Assets}
 
 -- Listing them
 
@@ -85,6 +85,10 @@ module _ (s table last t : List ℕ) (m : ℕ) (i : Collecting s table last t m)
           wide = listed-long p ∙ i.wide;
           left = λ v r q. i.left v r (rw (w, rest-next Parameter Parameter 3 s t i.within, ← a, ← b) (listed_then _ _ last u v m k r p q));
         }
+
+-- where there is room for all, the table holds them in front
+pub assets-listed : (s x table last : List ℕ) (count : ℕ) → x ≡ s → Listed (asset_numbers (front x)) table 0 last count → Assets s last count
+assets-listed s x table last count e p h = listed-front (asset_numbers (front x)) table last count p (rw (← listed-long p) h) ∙ rw e
 
 -- Looking for a name among them
 

@@ -7,8 +7,8 @@ use Rattle.guards.proofs.contained.has_inflow.Goals as goal
 pub loop-i-init : goal.loop-i-init
 loop-i-init c = search members-any
 
-pub returns-then-is_inflow : goal.returns-then-is_inflow
-returns-then-is_inflow c = search field_found
+pub returns-then-is_listed_inflow : goal.returns-then-is_listed_inflow
+returns-then-is_listed_inflow c = search field_found
 
 pub loop-i-preserved : goal.loop-i-preserved
 loop-i-preserved c = search field-on
