@@ -1,7 +1,7 @@
 // SPDX-License-Identifier: Apache-2.0 OR MIT
 // The assignments that lower a state field by an amount: those of an entry are listed once for a payout, and each guard that bounds
 // the amount is then compared with them by the name of its state field.
-ghost use Rattle.std.specs.Prelude.{◌≡◌, true, ◌&&◌, eqb, ◌≤◌, ◌+◌, ◌^◌, ◌<◌, length, drop};
+ghost use Rattle.std.specs.Prelude.{◌≡◌, true, ◌&&◌, eqb, ◌≤◌, ◌+◌, ◌^◌, ◌<◌, length, get_or, drop};
 ghost use Rattle.laws.specs.Texts.{same_bytes};
 ghost use Rattle.fields.specs.Field.{front};
 ghost use Rattle.fields.specs.Number.{short_number};
@@ -100,26 +100,26 @@ pub fn list_lowerings(file: &[u8], place: usize, amount: &[u8], table: &mut [u16
     n
 }
 
-// Whether the assignment at a place of the file, whose target's name has that number, assigns to the name with the other.
-fn has_target(file: &[u8], number: usize, place: usize, name: &[u8], name_number: usize) -> bool
-    requires { name_number ≡ short_number name.now }
-    ensures { result ≡ eqb number (short_number name.now) && same_bytes (target (front (drop place file.now))) name.now }
+// Whether the assignment whose two numbers stand at i of a table assigns to the name, which has that number.
+fn has_target(file: &[u8], lowerings: &[u16], i: usize, name: &[u8], number: usize) -> bool
+    requires number { number ≡ short_number name.now }
+    requires inside { i + 1 < length lowerings.now }
+    ensures { result ≡ eqb (get_or lowerings.now i 0) (short_number name.now) && same_bytes (target (front (drop (get_or lowerings.now (i + 1) 0) file.now))) name.now }
 {
-    if number != name_number {
+    if number_at(lowerings, i) != number {
         return false;
     }
-    same_bytes(target(skip(file, place)), name)
+    same_bytes(target(skip(file, number_at(lowerings, i + 1))), name)
 }
 
 // Whether one of the lowerings of a table lowers the state field of that name.
 pub fn is_lowered(file: &[u8], lowerings: &[u16], name: &[u8]) -> bool
     ensures { result ≡ lowered_in file.now name.now lowerings.now }
 {
-    let name_number = short_number(name);
+    let number = short_number(name);
     let mut i = 0;
     while 1 < lowerings.len() - i {
-        let number = number_at(lowerings, i);
-        if has_target(file, number, number_at(lowerings, i + 1), name, name_number) {
+        if has_target(file, lowerings, i, name, number) {
             return true;
         }
         i += 2;

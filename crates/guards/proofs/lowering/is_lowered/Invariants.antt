@@ -24,10 +24,10 @@ module _ (file r l : List ℕ) (i : ℕ) (v : Passed file r l i) where
   pub all-passed : length l - i ≤ 1 → false ≡ lowered_in file r l
   all-passed h = none_left file r (drop i l) (omega (arith, length-drop i l)) ∙ v.left
 
-  module _ (h : 1 < length l - i) (a : ℕ) (d : a ≡ get_or l i 0) (n : ℕ) (e : n ≡ get_or l (i + 1) 0) (b : Bool) (f : b ≡ eqb a (short_number r) && same_bytes (target (front (drop n file))) r) where
+  module _ (h : 1 < length l - i) (b : Bool) (f : b ≡ eqb (get_or l i 0) (short_number r) && same_bytes (target (front (drop (get_or l (i + 1) 0) file))) r) where
     step : b || lowered_in file r (drop (i + 2) l) ≡ lowered_in file r l
     unfolding lowered_in
-    step = rw (f, d, e) (rw (next-two l i h) at v.left)
+    step = rw f (rw (next-two l i h) at v.left)
 
     pub one-found : b ≡ true → true ≡ lowered_in file r l
     one-found o = rw o at step
