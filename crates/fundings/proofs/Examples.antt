@@ -6,6 +6,7 @@ use Rattle.laws.specs.Lists.{any, all, filter}
 use Rattle.laws.specs.Texts.{same_bytes, bytes, known}
 use Rattle.tags.specs.Tag.{Entry, Parameter, Limits, Guard, ExpressionStatement, InAsset, Member, Call, Checked, Eq, Lt, composite, is_expression, is_statement, is_wrapper}
 use Rattle.fields.specs.Field.{fields, fields_to, nth, row, fields_from, size, sizes, placed, placed_from, place_of}
+use Rattle.fields.specs.Number.{short_number, number_from}
 use Rattle.fields.proofs.Writing.{write, name, type_name, identifier}
 use Rattle.model.specs.Model.{entries, params}
 use Rattle.walking.specs.Walking.{peel, peel_first, peel_place, peel_first_place, walk, walk_parts, stmt_exprs, body_exprs, exprs, ident, method, receiver, asset_amount_backer}
@@ -15,7 +16,7 @@ use Rattle.tokens.specs.Tokens.{single, beside_in_asset, token_named, tokens_nam
 use Rattle.tokens.specs.Numbers.{token_of, joined, joined_all, condition_number, tokens_number}
 use Rattle.tokens.specs.Place.{beside_place, token_place}
 use Rattle.fundings.specs.FundingTokens.{funds, ledger_funding_tokens, funding_token}
-use Rattle.fundings.specs.Fundings.{funding_number, is_funding_call, numbers_of, fundings_of, fundings, found_with, found_through}
+use Rattle.fundings.specs.Fundings.{funding_number, is_map, before_map, number_of_map}
 
 abbrev in_asset : List ℕ
 in_asset = write InAsset []
@@ -78,44 +79,39 @@ funding-none : funded
 unfolding funded
 funding-none = refl
 
--- the calls that fund some map, each with its place and what its entry names
-listed : List (List ℕ) → List (List ℕ)
-unfolding any all filter same_bytes known fields fields_to nth composite size sizes placed placed_from row fields_from flat_map is_expression is_statement is_wrapper entries params peel
-    peel_first walk walk_parts stmt_exprs body_exprs ident method receiver asset_amount_backer is_asset_parameter asset_params split_and split_each split_first negated negated_each
-    negated_first conditions_of required_conditions opposite operator beside_in_asset token_named is_inflow is_credit token_of joined joined_all condition_number tokens_number
-    is_funding_call numbers_of fundings_of fundings
-listed files = map fundings files
+-- calls that fund the maps m and w, one behind the other
+abbrev set_map : String → List ℕ
+set_map m = call m "set" (x ++ amount "a")
 
+two-maps : List ℕ
+two-maps = set_map "m" ++ set_map "w"
+
+-- three numbers of each
+abbrev listed : List ℕ
+listed = short_number (bytes "m") ∷ 0 ∷ 29 ∷ short_number (bytes "w") ∷ 36 ∷ 1 ∷ []
+
+-- a map's set is that of its own name; a map that is not listed has an empty one, and so has one whose number stands with another name
+looked-up : map (λ m. number_of_map two-maps m listed) (bytes "m" ∷ bytes "w" ∷ bytes "n" ∷ []) ++ number_of_map two-maps (bytes "n") (short_number (bytes "n") ∷ 0 ∷ 29 ∷ []) ∷ []
+    ≡ 29 ∷ 1 ∷ 0 ∷ 0 ∷ []
+unfolding fields fields_to nth composite same_bytes ident receiver number_from is_map number_of_map two-maps
+looked-up = refl
+
+-- where they stand: behind no number, behind three, behind all
+found : map (λ m. before_map two-maps m listed) (bytes "m" ∷ bytes "w" ∷ bytes "n" ∷ []) ≡ 0 ∷ 3 ∷ 6 ∷ []
+unfolding fields fields_to nth composite same_bytes ident receiver number_from is_map before_map two-maps
+found = refl
+
+-- an entry that credits another map
 abbrev credits_other : List ℕ
 credits_other = write ExpressionStatement (call "w" "credit" (x ++ amount "a"))
 
--- an entry that names one, none, two; two maps of one entry; two entries; a plain parameter, a debit, a first argument, no entry
-listing : listed
-    (funding "T" (credits "credit" (amount "a")) ∷ entry (asset "a" ++ credits "set" (amount "a")) ∷ funding "T" (guard (holds "U") ++ credits "credit" (amount "a"))
-    ∷ funding "T" (credits "credit" (amount "a") ++ credits_other) ∷ (funding "T" (credits "credit" (amount "a")) ++ funding "U" credits_other)
-    ∷ funding "T" (credits "credit" (amount "b")) ∷ funding "T" (credits "debit" (amount "a")) ∷ funding "T" (write ExpressionStatement (call "m" "credit" (amount "a"))) ∷ [] ∷ [])
-    ≡ (40 ∷ 29 ∷ []) ∷ (27 ∷ 0 ∷ []) ∷ (53 ∷ 1 ∷ []) ∷ (40 ∷ 29 ∷ 82 ∷ 29 ∷ []) ∷ (40 ∷ 29 ∷ 119 ∷ 108 ∷ []) ∷ [] ∷ [] ∷ [] ∷ [] ∷ []
-unfolding listed
-listing = refl
-
--- the maps m, w and n of a file, by going through its calls
-gone : List ℕ → List (List ℕ)
-unfolding listed found_with found_through
-gone file = map (λ m. token_of file (found_through file m 0 (fundings file))) (bytes "m" ∷ bytes "w" ∷ bytes "n" ∷ [])
-
--- two maps of two entries, of one; two entries that name the same, and two that do not; an entry that names none beside one that names one
-going : map gone
-    ((funding "T" (credits "credit" (amount "a")) ++ funding "U" credits_other) ∷ funding "T" (credits "credit" (amount "a") ++ credits_other)
-    ∷ (funding "T" (credits "credit" (amount "a")) ++ funding "T" (credits "set" (amount "a"))) ∷ (funding "T" (credits "credit" (amount "a")) ++ funding "U" (credits "set" (amount "a")))
-    ∷ (entry (asset "a" ++ credits "set" (amount "a")) ++ funding "T" (credits "credit" (amount "a"))) ∷ [])
-    ≡ (bytes "T" ∷ bytes "U" ∷ [] ∷ []) ∷ (bytes "T" ∷ bytes "T" ∷ [] ∷ []) ∷ (bytes "T" ∷ [] ∷ [] ∷ []) ∷ ([] ∷ [] ∷ [] ∷ []) ∷ (bytes "T" ∷ [] ∷ [] ∷ []) ∷ []
-unfolding gone
-going = refl
-
--- the set of m's tokens in such files: the first comparison of those that name the same, and 2; where it is one, its token stands
+-- the set of m's tokens in files: the first comparison of those that name the same, and 2; where it is one, its token stands
 -- behind two heads
 funded_numbers : List (List ℕ) → List ℕ
-unfolding listed funds exprs is_funding funding_number
+unfolding any all filter same_bytes known fields fields_to nth composite size sizes placed placed_from row fields_from flat_map is_expression is_statement is_wrapper entries params peel
+    peel_first walk walk_parts stmt_exprs body_exprs exprs ident method receiver asset_amount_backer is_asset_parameter asset_params split_and split_each split_first negated negated_each
+    negated_first conditions_of required_conditions opposite operator beside_in_asset token_named is_inflow is_credit is_funding token_of joined joined_all condition_number tokens_number
+    funds funding_number
 funded_numbers files = map (λ f. funding_number f (bytes "m")) files
 
 numbering : funded_numbers
@@ -127,5 +123,5 @@ unfolding funded_numbers
 numbering = refl
 
 showing : token_place (funding "T" (credits "credit" (amount "a"))) 29 ≡ 36
-unfolding listed peel_place peel_first_place place_of beside_place token_place
+unfolding fields fields_to nth composite size sizes is_wrapper peel peel_first peel_place peel_first_place place_of beside_place token_place
 showing = refl

@@ -1,8 +1,9 @@
+pub mod Examples
+pub mod Calls
 pub mod Funded
 pub mod Funders
-pub mod Examples
-pub mod Shown
-pub mod Through
-pub mod Filling
-pub mod Entering
+pub mod Maps
+pub mod Joins
+pub mod Entries
 pub mod Relisting
+pub mod Shown

@@ -1,12 +1,10 @@
--- The calls that fund a map are listed behind what is remembered of state fields, which stays as it is.
-use Rattle.std.proofs.Common.{ℕ, ◌+◌, ◌-◌, ◌≤◌, ◌<◌, ◌≡◌, refl, sym, ◌∙◌, Bool, true, false, List, ◌++◌, append-nil, arith, ltb-true, ltb, length, get_or, take, drop, set, length-append}
+-- The maps that some call funds are listed behind what is remembered of state fields, which stays as it is.
+use Rattle.std.proofs.Common.{ℕ, ◌+◌, ◌-◌, ◌≤◌, ◌<◌, ◌≡◌, refl, sym, ◌∙◌, Bool, true, false, List, ◌++◌, append-nil, arith, ltb-true, ltb, w64, Fits, length, get_or, take, drop, set, length-append}
 use Rattle.std.proofs.Common.{length-drop, length-set, drop_of_length-le, get_or-take, get_or-set_same, get_or-set_other, drop-set-lt, drop_at, length-take-le}
 use lib.ListN.{get_or-append}
 use Rattle.laws.proofs.Slices.{drop-rest}
-use Rattle.fields.specs.Table.{Listed}
-use Rattle.fields.proofs.Tables.{listed-front, listed-long}
 use Rattle.tokens.specs.Numbers.{not_yet}
-use Rattle.fundings.specs.Fundings.{fundings}
+use Rattle.fundings.specs.Fundings.{funding_number, number_of_map, Right}
 use Rattle.fundings.specs.Funded.{Funded, Relisted, remembered_at, state_fields, listed_from, listed_room, facts_size}
 
 -- a front that is kept
@@ -18,18 +16,15 @@ kept-front facts last h i = go (ltb i state_fields) refl
     go true e = rw (e, h i (ltb-true i state_fields e))
     go false e = rw e
 
-module _ (file facts : List ℕ) (w : Funded file facts) (u : List ℕ) (r : ℕ) (l : Listed (fundings file) (take (length facts - listed_from) (drop listed_from facts)) 0 u r) where
+module _ (file facts : List ℕ) (w : Funded file facts) (u : List ℕ) (same : length u ≡ length (take (length facts - listed_from) (drop listed_from facts))) where
   abbrev last : List ℕ
   last = take listed_from facts ++ (u ++ drop (length facts - listed_from) (drop listed_from facts))
 
   front_long : length (take listed_from facts) ≡ listed_from
   front_long = length-take-le listed_from facts (omega (arith, w.long))
 
-  length-lent : length u ≡ length (take (length facts - listed_from) (drop listed_from facts))
-  length-lent = listed-long l
-
   wide : length u ≡ listed_room
-  wide = length-lent ∙ rw (drop-rest facts listed_from, length-drop) (omega (arith, w.long))
+  wide = same ∙ rw (drop-rest facts listed_from, length-drop) (omega (arith, w.long))
 
   behind : drop listed_from last ≡ u
   behind =
@@ -54,16 +49,28 @@ module _ (file facts : List ℕ) (w : Funded file facts) (u : List ℕ) (r : ℕ
         kept = kept-front facts last (λ i k. before (1 + i) (omega (arith, k)));
       }
 
-  pub relisted-all : r ≤ listed_room → Relisted file facts (set last 0 r)
-  relisted-all h =
+  pub relisted-all : (r : ℕ) → Right file u r → r ≤ listed_room → Relisted file facts (set last 0 r)
+  relisted-all r l h =
       let z : get_or (set last 0 r) 0 0 ≡ r = get_or-set_same last 0 r 0 (rw long (omega arith)) in
       record {
         funded = record {
           long = length-set last 0 r ∙ long;
           room = λ o. rw z h;
-          listed = λ o. rw (z, drop-set-lt listed_from last 0 r (omega arith), behind)
-              (listed-front (fundings file) (take (length facts - listed_from) (drop listed_from facts)) u r l (rw (← length-lent, wide) h));
+          listed = λ o. rw (z, drop-set-lt listed_from last 0 r (omega arith), behind) (l (rw wide h));
         };
         kept = kept-front facts (set last 0 r)
             (λ i k. get_or-set_other last 0 (1 + i) r 0 (λ e. absurd (omega (arith, e))) ∙ before (1 + i) (omega (arith, k)));
       }
+
+-- where they are listed, a map's set is looked up among them
+module _ (file m facts : List ℕ) (f : Funded file facts) (count : ℕ) (c : count ≡ get_or facts 0 0) (n : count ≡ not_yet → ⊥) where
+  pub listed-room : listed_from + count ≤ length facts
+  listed-room = omega (arith, f.long, f.room (rw (← c) n))
+
+  pub listed-fits : Fits w64 (listed_from + count)
+  listed-fits = omega (arith, listed-room, f.long)
+
+  pub listed-number : (k : ℕ) → k ≡ number_of_map file m (take (listed_from + count - listed_from) (drop listed_from facts)) → k ≡ funding_number file m
+  listed-number k e =
+      let z : listed_from + count - listed_from ≡ count = omega arith in
+      e ∙ rw (z, c) (f.listed (rw (← c) n) m)

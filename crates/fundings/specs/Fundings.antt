@@ -1,13 +1,14 @@
--- The token that funds a map as a number; and the calls of a file that fund some map, listed once as numbers of two bytes, so that
--- a map's token is found by a loop over them.
-use Rattle.std.specs.Prelude.{ℕ, ◌+◌, ◌*◌, ◌%◌, ◌≤◌, ◌<◌, Bool, cond, ◌&&◌, map, length, drop}
-use mathlib.Core.List.{List, [], ◌∷◌, flat_map}
+-- The token that funds a map as a number; and the maps of a file that some call funds, listed once as numbers of two bytes, three for
+-- each map, so that a map's token is looked up among them.
+use Rattle.std.specs.Prelude.{ℕ, ◌+◌, ◌%◌, ◌≤◌, ◌≡◌, Bool, cond, ◌&&◌, eqb, map, length, take, drop}
+use mathlib.Core.List.{List, [], ◌∷◌}
 use Rattle.laws.specs.Texts.{same_bytes}
-use Rattle.laws.specs.Lists.{filter}
-use Rattle.fields.specs.Field.{Field, Placed, fields, front, part}
+use Rattle.laws.specs.Lists.{any, filter}
+use Rattle.fields.specs.Field.{Field, fields, front, part}
+use Rattle.fields.specs.Number.{short_number}
 use Rattle.model.specs.Model.{entries}
-use Rattle.walking.specs.Walking.{peel, receiver, body_exprs}
-use Rattle.tokens.specs.Tokens.{is_inflow, is_credit}
+use Rattle.walking.specs.Walking.{peel, receiver}
+use Rattle.tokens.specs.Tokens.{is_inflow, is_credit, is_funding}
 use Rattle.tokens.specs.Numbers.{joined, joined_all, tokens_number}
 use Rattle.fundings.specs.FundingTokens.{funds}
 
@@ -21,41 +22,47 @@ funding_number file m = joined_all file 0 (map (tokens_number file) (filter (λ 
 unfoldable pub is_funding_call : Field → Field → Bool
 is_funding_call entry f = is_credit f && is_inflow entry (peel (part 2 f))
 
--- the two numbers of such a call: its place in the file, and what its entry names
-unfoldable pub numbers_of : Field → ℕ → Placed → List ℕ
-numbers_of entry number call = cond (is_funding_call entry call.this) (call.place ∷ number ∷ []) []
+-- one of some calls of an entry funds the map
+unfoldable pub funded_by : Field → List Field → List ℕ → Bool
+funded_by entry fs m = any (is_funding m entry) fs
 
--- those of an entry, in walk order
-unfoldable pub fundings_of : List ℕ → Placed → List ℕ
-fundings_of file entry = flat_map (numbers_of entry.this (tokens_number file entry)) (body_exprs entry)
+-- Listed maps: each has the short number of its name, the place of a call that funds it, and the set of its tokens
 
--- those of a file
-unfoldable pub fundings : List ℕ → List ℕ
-fundings file = flat_map (fundings_of file) (entries (fields file))
+-- the numbers are those of the map
+unfoldable pub is_map : (file m : List ℕ) → (number call : ℕ) → Bool
+is_map file m number call = eqb number (short_number m) && same_bytes (receiver (front (drop call file))) m
 
--- Going through them
+-- how many numbers stand before those of the map; all, where it is not listed
+unfoldable pub before_map : (file m : List ℕ) → List ℕ → ℕ
+before_map file m [] = 0
+before_map file m (number ∷ []) = 1
+before_map file m (number ∷ call ∷ []) = 2
+before_map file m (number ∷ call ∷ set ∷ ks) = cond (is_map file m number call) 0 (3 + before_map file m ks)
 
--- the set found so far with that of a call, where the call is one of the map
-unfoldable pub found_with : (file m : List ℕ) → (found call number : ℕ) → ℕ
-found_with file m found call number = cond (same_bytes (receiver (front (drop call file))) m) (joined file found number) found
+-- the map's set; an empty one, where it is not listed
+unfoldable pub number_of_map : (file m : List ℕ) → List ℕ → ℕ
+number_of_map file m [] = 0
+number_of_map file m (number ∷ []) = 0
+number_of_map file m (number ∷ call ∷ []) = 0
+number_of_map file m (number ∷ call ∷ set ∷ ks) = cond (is_map file m number call) set (number_of_map file m ks)
 
--- all calls of a table, two numbers each
-unfoldable pub found_through : (file m : List ℕ) → ℕ → List ℕ → ℕ
-found_through file m found [] = found
-found_through file m found (call ∷ []) = found
-found_through file m found (call ∷ number ∷ ks) = found_through file m (found_with file m found call number) ks
+-- a set with a further one, where the map is funded
+abbrev pub joined_if : List ℕ → Bool → (set further : ℕ) → ℕ
+joined_if file funded set further = cond funded (joined file set further) set
 
--- Listing them
+-- maps are listed in the first n numbers of a table; there are more where one found no room
+pub record Mapped (table : List ℕ) (n : ℕ) : Type 0 where
+  pub wide : length table ≤ 65536
+  pub threes : n % 3 ≡ 0
+  pub few : n ≤ length table + 3
 
--- whether the call at a place funds some map
-unfoldable pub funding_call_at : List ℕ → Field → ℕ → Bool
-funding_call_at file entry k = is_funding_call entry (front (drop k file))
+-- each map that is funded has got a further set, and any other has the one that it had, if all found room
+pub record Joins (file : List ℕ) (funded : List ℕ → Bool) (further : ℕ) (table : List ℕ) (n : ℕ) (last : List ℕ) (r : ℕ) : Type 0 where
+  pub mapped : Mapped last r
+  pub long : length last ≡ length table
+  pub before : r ≤ length table → n ≤ length table
+  pub each : r ≤ length table → (m : List ℕ) → number_of_map file m (take r last) ≡ joined_if file (funded m) (number_of_map file m (take n table)) further
 
--- its two numbers; up to 65,535 the place is itself
-unfoldable pub numbers_at : List ℕ → Field → ℕ → ℕ → List ℕ
-numbers_at file entry number k = cond (funding_call_at file entry k) (k % 65536 ∷ number ∷ []) []
-
--- the places of an entry's calls, the number of what it names, and how many numbers were listed before: none is too large for the code
-pub record Calls (calls : List ℕ) (number n : ℕ) : Type 0 where
-  pub small : number < 65536
-  pub few : n + 2 * length calls ≤ 131072
+-- each map has the set of the tokens that fund it, if all found room
+abbrev pub Right : (file table : List ℕ) → (n : ℕ) → Type 0
+Right file table n = n ≤ length table → (m : List ℕ) → number_of_map file m (take n table) ≡ funding_number file m

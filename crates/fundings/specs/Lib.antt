@@ -1,3 +1,4 @@
 pub mod FundingTokens
 pub mod Fundings
+pub mod Funder
 pub mod Funded

@@ -1,6 +1,6 @@
 // SPDX-License-Identifier: Apache-2.0 OR MIT
-// What is the same for all entries of a file, in one lent table: how many numbers are listed of the calls that fund a map; then one
-// for each state field, of its token; and behind them what is listed.
+// What is the same for all entries of a file, in one lent table: how many numbers are listed of the maps that some call funds; then
+// one for each state field, of its token; and behind them what is listed.
 ghost use Rattle.std.specs.Prelude.{◌≡◌, ◌*◌, ◌≤◌, length, take, drop, replicate};
 ghost use Rattle.fields.specs.Field.{fields};
 ghost use Rattle.tokens.specs.Numbers.{not_yet};
@@ -9,7 +9,7 @@ ghost use Rattle.fundings.specs.FundingTokens.{funding_token};
 ghost use Rattle.fundings.specs.Fundings.{funding_number};
 ghost use Rattle.fundings.specs.Funded.{Funded, Relisted, facts_size};
 
-use super::ledger::{found_through, list_fundings};
+use super::ledger::{list_fundings, number_of_map};
 use super::token::ledger_funding_number;
 use fields::table::number_at;
 use tokens::number::{NOT_YET, token_of};
@@ -17,14 +17,14 @@ use tokens::number::{NOT_YET, token_of};
 // How many state fields something is remembered of: a file that passes question 1 has no more, since one takes 11 bytes at least.
 pub const STATE_FIELDS: usize = 2979;
 
-// Where the listed calls start: behind their count and the state fields.
+// Where the listed maps start: behind their count and the state fields.
 const LISTED_FROM: usize = 2980;
 
-// How many numbers of listed calls find room: two for each, and a call that funds a map takes 34 bytes at least.
-const LISTED_ROOM: usize = 1930;
+// How many numbers of listed maps find room: three for each, and a call that funds a map takes 31 bytes at least.
+const LISTED_ROOM: usize = 3171;
 
 // The size of the whole table.
-pub const FACTS: usize = 4910;
+pub const FACTS: usize = 6151;
 
 // The table at the start, when nothing is worked out yet.
 pub fn nothing_known() -> [u16; FACTS]
@@ -33,8 +33,8 @@ pub fn nothing_known() -> [u16; FACTS]
     [NOT_YET as u16; FACTS]
 }
 
-// The set of the tokens that fund the map. It is read from the listed calls, and where they are not listed yet, from the whole
-// file.
+// The set of the tokens that fund the map. It is looked up among the listed maps, and where they are not listed yet, read from the
+// whole file.
 pub fn funding_number(file: &[u8], map: &[u8], facts: &[u16]) -> usize
     requires short { length file.now ≤ 32768 }
     requires funded { Funded file.now facts.now }
@@ -44,7 +44,7 @@ pub fn funding_number(file: &[u8], map: &[u8], facts: &[u16]) -> usize
     if count == NOT_YET {
         return ledger_funding_number(file, map);
     }
-    found_through(file, map, &facts[LISTED_FROM..LISTED_FROM + count])
+    number_of_map(file, map, &facts[LISTED_FROM..LISTED_FROM + count])
 }
 
 // The one token that funds the map; none where no entry that funds it names one, or two differ.
@@ -57,7 +57,7 @@ pub fn funded_token<'a>(file: &'a [u8], map: &[u8], facts: &[u16]) -> &'a [u8]
     token_of(file, funding_number(file, map, facts))
 }
 
-// Lists the calls of the file that fund a map, where they are not listed yet. The scratch table has a number for each three bytes
+// Lists the maps of the file that some call funds, where they are not listed yet. The scratch table has a number for each three bytes
 // of the file.
 pub fn list_facts(file: &[u8], facts: &mut [u16], scratch: &mut [u16]) -> usize
     requires short { length file.now ≤ 32768 }

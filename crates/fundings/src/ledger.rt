@@ -1,178 +1,258 @@
 // SPDX-License-Identifier: Apache-2.0 OR MIT
-// The calls of a file that fund some map, listed once, and a map's token by a loop over them. What is listed of a call is its
-// place in the file, and the set of tokens that its entry names as one number.
-ghost use Rattle.std.specs.Prelude.{◌≡◌, ◌*◌, ◌≤◌, ◌<◌, length};
-ghost use mathlib.Core.List.{flat_map};
-ghost use Rattle.laws.specs.Lists.{any};
-ghost use Rattle.tags.specs.Tag.{Call};
+// The maps of a file that some call funds, listed once, and a map's token by a look-up among them. What is listed of a map is the
+// short number of its name, the place of a call that funds it, and the set of tokens that the entries with such calls name.
+ghost use Rattle.std.specs.Prelude.{◌≡◌, [], ◌∷◌, ◌*◌, ◌≤◌, ◌<◌, length, drop};
+ghost use Rattle.laws.specs.Lists.{position};
+ghost use Rattle.laws.specs.Texts.{same_bytes};
 ghost use Rattle.fields.specs.Field.{front};
-ghost use Rattle.fields.specs.Table.{Listed};
-ghost use Rattle.walking.specs.Walking.{body_exprs};
-ghost use Rattle.walking.specs.Table.{placed_at, places_of};
-ghost use Rattle.tokens.specs.Numbers.{Standing};
-ghost use Rattle.fundings.specs.Fundings.{is_funding_call, fundings_of, fundings, found_with, found_through, funding_call_at, numbers_at, Calls};
+ghost use Rattle.fields.specs.Number.{short_number};
+ghost use Rattle.fields.specs.Table.{fields_at};
+ghost use Rattle.walking.specs.Assets.{Assets};
+ghost use Rattle.walking.specs.Walking.{receiver, exprs};
+ghost use Rattle.walking.specs.Table.{placed_at};
+ghost use Rattle.tokens.specs.Numbers.{tokens_number, Standing};
+ghost use Rattle.fundings.specs.Fundings.{is_funding_call, funded_by, is_map, before_map, number_of_map, Mapped, Joins, Right};
+ghost use Rattle.fundings.specs.Funder.{FunderOf};
 
 use fields::bytes::{same_bytes, skip};
 use fields::front::{after_front, first_from, is_whole, part_of};
-use fields::table::{note, number_at};
+use fields::number::short_number;
+use fields::table::{note, number_at, wide};
 use tags::{CALL, ENTRY};
-use tokens::inflow::{is_credit, is_inflow};
+use tokens::inflow::{is_credit, is_listed_inflow};
 use tokens::number::{join, tokens_number};
-use walking::parameters::count_asset_parameters;
+use walking::parameters::{ASSET_NUMBERS, list_assets};
 use walking::peel::peel;
 use walking::shape::receiver;
-use walking::walk::{MOST_FIELDS, list_body};
+use walking::walk::list_body;
 
-// Almost every entry has a handful of calls, and a table for those of any entry takes longer to clear than they take to list: it
-// is made only where they do not fit into a small one, of this size.
+// Almost every entry has a handful of calls, which find room in a small table of this size.
 const FEW: usize = 256;
 
-// Whether the call at the front of s funds some map.
-fn is_funding_call(entry: &[u8], s: &[u8]) -> bool
+// An entry that funds maps: its place in the file, how many numbers are listed of its asset parameters, and the set that it names.
+#[derive(Clone, Copy)]
+pub struct Funder {
+    pub place: usize,
+    pub assets: usize,
+    pub named: usize,
+}
+
+// Whether the call at the front of s funds some map. The asset parameters of the entry are listed.
+fn is_funding_call(entry: &[u8], assets: &[u16], count: usize, s: &[u8]) -> bool
+    requires { Assets entry.now assets.now count }
     ensures { result ≡ is_funding_call (front entry.now) (front s.now) }
 {
     if !is_credit(s) {
         return false;
     }
-    is_inflow(entry, peel(part_of(s, 2)))
+    is_listed_inflow(entry, assets, count, peel(part_of(s, 2)))
 }
 
-// Whether one of the calls at the places of a table does.
-fn has_funding_call(file: &[u8], entry: &[u8], calls: &[u16]) -> bool
-    ensures { result ≡ any (funding_call_at file.now (front entry.now)) calls.now }
+// A table from its n-th number on.
+fn numbers_from(table: &[u16], n: usize) -> &[u16]
+    ensures { result.now ≡ drop n table.now }
+{
+    if n <= table.len() {
+        return &table[n..];
+    }
+    &table[..0]
+}
+
+// How many of the calls at the places of a table stand before the first that funds some map.
+fn first_funding(file: &[u8], entry: &[u8], assets: &[u16], count: usize, calls: &[u16]) -> usize
+    requires { Assets entry.now assets.now count }
+    ensures { result ≡ position (is_funding_call (front entry.now)) (fields_at file.now calls.now) }
 {
     let mut i = 0;
     while i < calls.len() {
-        if is_funding_call(entry, skip(file, number_at(calls, i))) {
-            return true;
+        if is_funding_call(entry, assets, count, skip(file, number_at(calls, i))) {
+            return i;
         }
         i += 1;
     }
-    false
+    i
 }
 
-// Lists the two numbers of a call, from n of the table on; nothing where it funds no map.
+// Whether two listed numbers are those of a map, whose name has the number `own`. A name is read only where the numbers are equal.
+fn is_map(file: &[u8], map: &[u8], own: usize, number: usize, call: usize) -> bool
+    requires { own ≡ short_number map.now }
+    ensures { result ≡ is_map file.now map.now number call }
+{
+    if number != own {
+        return false;
+    }
+    same_bytes(receiver(skip(file, call)), map)
+}
+
+// How many of the listed numbers stand before those of a map; all, where it is not listed.
+fn find_map(file: &[u8], map: &[u8], maps: &[u16]) -> usize
+    ensures { result ≡ before_map file.now map.now maps.now }
+{
+    let own = short_number(map);
+    let mut i = 0;
+    while 2 < maps.len() - i {
+        if is_map(file, map, own, number_at(maps, i), number_at(maps, i + 1)) {
+            return i;
+        }
+        i += 3;
+    }
+    maps.len()
+}
+
+// The set of a map by the listed numbers; the empty one where it is not listed.
+pub fn number_of_map(file: &[u8], map: &[u8], maps: &[u16]) -> usize
+    ensures { result ≡ number_of_map file.now map.now maps.now }
+{
+    number_at(maps, find_map(file, map, maps) + 2)
+}
+
+// Joins a set to that of the map which the call at a place funds. A map that is not listed yet is listed, as far as there is room.
+fn join_call(file: &[u8], call: usize, named: usize, table: &mut [u16], n: usize) -> usize
+    requires small { (call < 65536) × (named < 65536) }
+    requires mapped { Mapped table.old n }
+    ensures { Joins file.now (same_bytes (receiver (front (drop call file.now)))) named table.old n table.new result }
+{
+    if table.len() < n {
+        return n;
+    }
+    let map = receiver(skip(file, call));
+    let at = find_map(file, map, &table[..n]);
+    if at < n {
+        let set = join(file, wide(table[at + 2]), named);
+        table[at + 2] = set as u16;
+        return n;
+    }
+    let m = note(true, short_number(map), table, n);
+    let k = note(true, call, table, m);
+    note(true, named, table, k)
+}
+
+// The same of a call of the entry, which may fund no map.
 fn list_call(
     file: &[u8],
-    entry: &[u8],
+    entry: Funder,
+    assets: &[u16],
     call: usize,
-    number: usize,
     table: &mut [u16],
     n: usize,
 ) -> usize
-    requires { (number < 65536) × (n ≤ 131072) }
-    ensures { Listed (numbers_at file.now (front entry.now) number call) table.old n table.new result }
+    requires small { call < 65536 }
+    requires entry { FunderOf file.now assets.now entry }
+    requires mapped { Mapped table.old n }
+    ensures { Joins file.now (funded_by (front (drop entry.place file.now)) (front (drop call file.now) ∷ [])) entry.named table.old n table.new result }
 {
-    let hit = is_funding_call(entry, skip(file, call));
-    let m = note(hit, call % 65536, table, n);
-    note(hit, number, table, m)
+    if !is_funding_call(
+        skip(file, entry.place),
+        assets,
+        entry.assets,
+        skip(file, call),
+    ) {
+        return n;
+    }
+    join_call(file, call, entry.named, table, n)
 }
 
 // The same of the calls at the places of a table.
 fn list_calls(
     file: &[u8],
-    entry: &[u8],
+    entry: Funder,
+    assets: &[u16],
     calls: &[u16],
-    number: usize,
     table: &mut [u16],
     n: usize,
 ) -> usize
-    requires { Calls calls.now number n }
-    ensures { Listed (flat_map (numbers_at file.now (front entry.now) number) calls.now) table.old n table.new result }
+    requires entry { FunderOf file.now assets.now entry }
+    requires mapped { Mapped table.old n }
+    ensures { Joins file.now (funded_by (front (drop entry.place file.now)) (fields_at file.now calls.now)) entry.named table.old n table.new result }
 {
-    let mut i = 0;
     let mut m = n;
+    let mut i = 0;
     while i < calls.len() {
-        m = list_call(file, entry, number_at(calls, i), number, table, m);
+        m = list_call(file, entry, assets, wide(calls[i]), table, m);
         i += 1;
     }
     m
 }
 
-// The same of the calls of the entry at a place of the file. What the entry names is worked out once, and only where a call
-// asks for it.
-fn list_calls_of(
+// The same of all calls of an entry that has many. What it names is worked out first, since the scratch table serves for both.
+fn list_many(
     file: &[u8],
     place: usize,
-    calls: &[u16],
+    assets: &[u16],
+    count: usize,
     table: &mut [u16],
     n: usize,
     scratch: &mut [u16],
 ) -> usize
-    requires standing { Standing file.now place n }
-    requires listed { calls.now ≡ places_of Call (body_exprs (placed_at file.now place)) }
+    requires standing { Standing file.now place 0 }
+    requires assets { Assets (drop place file.now) assets.now count }
     requires room { length file.now ≤ 3 * length scratch.old }
-    ensures { Listed (fundings_of file.now (placed_at file.now place)) table.old n table.new result }
+    requires mapped { Mapped table.old n }
+    ensures { Joins file.now (funded_by (front (drop place file.now)) (exprs (front (drop place file.now)))) (tokens_number file.now (placed_at file.now place)) table.old n table.new result }
 {
-    let entry = skip(file, place);
-    if !has_funding_call(file, entry, calls) {
-        return n;
-    }
-    let number = tokens_number(file, place, scratch);
-    list_calls(file, entry, calls, number, table, n)
+    let funder = Funder {
+        place: place,
+        assets: count,
+        named: tokens_number(file, place, scratch),
+    };
+    let calls = list_body(file, place, CALL, scratch);
+    list_calls(file, funder, assets, &scratch[..calls], table, n)
 }
 
-// The same with no table of its calls at hand. An entry without asset parameters funds nothing, so its body is not walked.
-fn list_entry(file: &[u8], place: usize, table: &mut [u16], n: usize, scratch: &mut [u16]) -> usize
-    requires standing { Standing file.now place n }
+// The same of any entry. One without asset parameters funds nothing, so its body is not walked, and what an entry names is worked
+// out only where a call asks for it.
+fn list_entry(
+    file: &[u8],
+    place: usize,
+    table: &mut [u16],
+    n: usize,
+    assets: &mut [u16],
+    scratch: &mut [u16],
+) -> usize
+    requires standing { Standing file.now place 0 }
     requires room { length file.now ≤ 3 * length scratch.old }
-    ensures { Listed (fundings_of file.now (placed_at file.now place)) table.old n table.new result }
+    requires mapped { Mapped table.old n }
+    ensures { Joins file.now (funded_by (front (drop place file.now)) (exprs (front (drop place file.now)))) (tokens_number file.now (placed_at file.now place)) table.old n table.new result }
 {
-    if count_asset_parameters(skip(file, place)) == 0 {
+    let entry = skip(file, place);
+    let count = list_assets(entry, assets);
+    if count == 0 {
         return n;
     }
     let mut few = [0u16; FEW];
-    let count = list_body(file, place, CALL, &mut few);
-    if count <= FEW {
-        return list_calls_of(file, place, &few[..count], table, n, scratch);
+    let listed = list_body(file, place, CALL, &mut few);
+    if FEW < listed {
+        return list_many(file, place, assets, count, table, n, scratch);
     }
-    let mut many = [0u16; MOST_FIELDS];
-    let all = list_body(file, place, CALL, &mut many);
-    list_calls_of(file, place, &many[..all], table, n, scratch)
+    let calls = &few[..listed];
+    let first = first_funding(file, entry, assets, count, calls);
+    if first == listed {
+        return n;
+    }
+    let funder = Funder {
+        place: place,
+        assets: count,
+        named: tokens_number(file, place, scratch),
+    };
+    list_calls(file, funder, assets, numbers_from(calls, first), table, n)
 }
 
-// Lists all calls of the file that fund some map, two numbers each, as far as the table has room, and answers how many
-// numbers there are. A table of 21,846 has room for those of every file that passes question 1. The scratch table has a number for
-// each three bytes of the file.
+// Lists all maps of the file that some call funds, three numbers each, and answers how many numbers there are; more than the table
+// has, where one found no room. A table of 3,171 has room for those of every file that passes the questions. The scratch table has
+// a number for each three bytes of the file.
 pub fn list_fundings(file: &[u8], table: &mut [u16], scratch: &mut [u16]) -> usize
     requires short { length file.now ≤ 32768 }
+    requires wide { length table.old ≤ 65536 }
     requires room { length file.now ≤ 3 * length scratch.old }
-    ensures { Listed (fundings file.now) table.old 0 table.new result }
+    ensures { Right file.now table.new result }
 {
+    let mut assets = [0u16; ASSET_NUMBERS];
     let mut t = first_from(file, ENTRY, ENTRY);
-    let mut m = 0;
+    let mut n = 0;
     while is_whole(t) {
-        m = list_entry(file, file.len() - t.len(), table, m, scratch);
+        n = list_entry(file, file.len() - t.len(), table, n, &mut assets, scratch);
         let u = first_from(after_front(t), ENTRY, ENTRY);
         t = u;
     }
-    m
-}
-
-// The set found so far with that of a call, where the call is one of the map. The names are compared first.
-fn found_with(file: &[u8], map: &[u8], found: usize, call: usize, number: usize) -> usize
-    ensures { result ≡ found_with file.now map.now found call number }
-{
-    if !same_bytes(receiver(skip(file, call)), map) {
-        return found;
-    }
-    join(file, found, number)
-}
-
-// The set of the tokens that fund the map, by the calls that list_fundings wrote.
-pub fn found_through(file: &[u8], map: &[u8], fundings: &[u16]) -> usize
-    ensures { result ≡ found_through file.now map.now 0 fundings.now }
-{
-    let mut found = 0;
-    let mut i = 0;
-    while 1 < fundings.len() - i {
-        let call = number_at(fundings, i);
-        let number = number_at(fundings, i + 1);
-        found = found_with(file, map, found, call, number);
-        if found == 1 {
-            return 1;
-        }
-        i += 2;
-    }
-    found
+    n
 }

@@ -18,7 +18,7 @@ use Rattle.walking.proofs.Callers.{body-read}
 use Rattle.equality.specs.Equality.{expr_eq}
 use Rattle.tokens.specs.Tokens.{is_credit}
 use Rattle.tokens.specs.Numbers.{Standing}
-use Rattle.fundings.proofs.Filling.{room-lent, calls-front}
+use Rattle.fundings.proofs.Calls.{room-lent, calls-front}
 use Rattle.reserve_tokens.specs.ReserveTokens.{credited}
 use Rattle.reserve_tokens.specs.Reserving.{with_amount, first_of}
 

@@ -13,6 +13,7 @@ use Rattle.fields.proofs.Rows.{rest_of, from-shorter, from_less, from-placed, re
 use Rattle.fields.proofs.Tails.{tail-first, tail-next}
 use Rattle.model.specs.Model.{body, entries}
 use Rattle.walking.specs.Walking.{present, receiver, is_debit, body_exprs}
+use Rattle.walking.specs.Assets.{Assets}
 use Rattle.walking.specs.Table.{placed_at, places_of}
 use Rattle.tokens.specs.Tokens.{is_inflow, is_credit}
 use Rattle.tokens.specs.Numbers.{Standing, token_of}
@@ -22,7 +23,7 @@ use Rattle.fundings.specs.Funded.{Funded}
 use Rattle.raises.specs.Raising.{is_raise, raised_by, raising, raises_from}
 use Rattle.reserve_tokens.specs.declared.raise.Agreed.{Agreed}
 use Rattle.reserve_tokens.specs.declared.raise.Raising.{Raising}
-use Rattle.reserve_tokens.specs.Reserving.{with_amount, first_of, nameless, map_number, Found, bars, remembered}
+use Rattle.reserve_tokens.specs.Reserving.{with_amount, first_of, map_number, Found, bars, remembered}
 use Rattle.reserve_tokens.specs.Numbers.{guard_numbers, only_number, raise_number, numbers_in, agreed}
 use Rattle.reserve_tokens.specs.Agreeing.{RaisesOf, Agrees, agreed_with, agreed_after, Agreeing}
 use Rattle.reserve_tokens.proofs.Called.{calls-read}
@@ -76,11 +77,12 @@ module _ (file : List ℕ) (short : length file ≤ 32768) (a : Agreed) (debit :
   debit-paid h m g number k r q =
       rw (← e, ← f, not-false b h, ← g, ← k) (agreeing-with file short a number debit (rw (← e, ← g) (map-kept file m number k)) r q)
 
-pub unnamed_here : (file facts : List ℕ) (en : Raising) (calls : List ℕ) → RaisesOf file facts en calls → (x : List ℕ) → x ≡ drop en.place file →
-    en.unnamed ≡ nameless (front x)
-unnamed_here file facts en calls w x e = rw e w.names
+-- the asset parameters of the entry are listed
+pub assets-here : (file facts : List ℕ) (en : Raising) (calls assets : List ℕ) → RaisesOf file facts en calls assets → (x : List ℕ) → x ≡ drop en.place file →
+    Assets x assets en.assets
+assets-here file facts en calls assets w x e h = rw e (w.listed h)
 
-module _ (file facts : List ℕ) (en : Raising) (calls : List ℕ) (w : RaisesOf file facts en calls) (a : Agreed)
+module _ (file facts : List ℕ) (en : Raising) (calls assets : List ℕ) (w : RaisesOf file facts en calls assets) (a : Agreed)
     (x : List ℕ) (e : x ≡ drop en.place file) (v : Field) (b : Bool) (f : b ≡ is_inflow (front x) v) where
   pub raise-comes-in : b ≡ true → (number : ℕ) → number ≡ cond (any (with_amount is_credit v) (fields_at file calls)) 0 en.guard →
       (r : Agreed) → r ≡ agreed_with file a number (length file) → Agreeing file a (raise_number file (placed_at file en.place) v ∷ []) r
@@ -143,14 +145,14 @@ entry-passed-over file name place x e b f h before a =
 -- what the code knows of an entry
 pub entry_known : (file facts : List ℕ) (place : ℕ) → Standing file place 0 → Funded file facts → (table calls : List ℕ) (count : ℕ) →
     Listed (places_of Call (body_exprs (placed_at file place))) table 0 calls count → length file ≤ 3 * length table →
-    (guard : ℕ) → guard ≡ only_number (guard_numbers file (placed_at file place)) → (x : List ℕ) → x ≡ drop place file → (unnamed : Bool) → unnamed ≡ nameless (front x) →
-    RaisesOf file facts (record { place = place; guard = guard; unnamed = unnamed }) (take count calls)
-entry_known file facts place h m table calls count l k guard g x e unnamed n = record {
+    (guard : ℕ) → guard ≡ only_number (guard_numbers file (placed_at file place)) → (assets : List ℕ) (many : ℕ) → Assets (drop place file) assets many →
+    RaisesOf file facts (record { place = place; guard = guard; assets = many }) (take count calls) assets
+entry_known file facts place h m table calls count l k guard g assets many n = record {
   short = h.short;
   funded = m;
   called = calls-read file place 0 h table calls count l k;
   guarded = g;
-  names = rw (← e) n;
+  listed = n;
 }
 
 -- One entry after the other

@@ -5,21 +5,23 @@ use Rattle.laws.specs.Lists.{filter}
 use Rattle.tags.specs.Tag.{Call}
 use Rattle.fields.specs.Field.{front, tag}
 use Rattle.walking.specs.Walking.{receiver, exprs}
+use Rattle.walking.specs.Assets.{Assets}
 use Rattle.walking.specs.Table.{placed_at}
 use Rattle.tokens.specs.Numbers.{token_of}
 use Rattle.fundings.specs.Funded.{Funded}
 use Rattle.reserve_tokens.specs.declared.raise.Agreed.{Agreed}
 use Rattle.reserve_tokens.specs.declared.raise.Raising.{Raising}
-use Rattle.reserve_tokens.specs.Reserving.{nameless, Found, bars, remembered}
+use Rattle.reserve_tokens.specs.Reserving.{Found, bars, remembered}
 use Rattle.reserve_tokens.specs.Numbers.{guard_numbers, only_number, agreed}
 
--- what the code knows of an entry whose raises it goes through: the calls of its body, and what is the same for all raises
-pub record RaisesOf (file facts : List ℕ) (e : Raising) (calls : List ℕ) : Type 0 where
+-- what the code knows of an entry whose raises it goes through: the calls of its body, its asset parameters, and what is the same for
+-- all raises
+pub record RaisesOf (file facts : List ℕ) (e : Raising) (calls assets : List ℕ) : Type 0 where
   pub short : length file ≤ 32768
   pub funded : Funded file facts
   pub called : fields_at file calls ≡ filter (λ f. eqb (tag f) Call) (exprs (front (drop e.place file)))
   pub guarded : e.guard ≡ only_number (guard_numbers file (placed_at file e.place))
-  pub names : e.unnamed ≡ nameless (front (drop e.place file))
+  pub listed : Assets (drop e.place file) assets e.assets
 
 -- a number that stands for what raises agreed on, none of which bars the field
 pub record Agrees (file : List ℕ) (a : Agreed) : Type 0 where

@@ -1,10 +1,9 @@
 -- What the code asks on its way to a state field's token: of the calls at the places of a table, and of the token that was found
 -- so far.
 use Rattle.std.specs.Prelude.{ℕ, ◌<◌, ◌≡◌, Bool, cond, ◌&&◌, ◌||◌, not, List, [], ◌∷◌, ltb}
-use Rattle.laws.specs.Texts.{same_bytes, known}
-use Rattle.laws.specs.Lists.{any}
+use Rattle.laws.specs.Texts.{known}
 use Rattle.fields.specs.Field.{Field, part, nothing}
-use Rattle.walking.specs.Walking.{peel, present, receiver, asset_params}
+use Rattle.walking.specs.Walking.{peel, present, receiver}
 use Rattle.equality.specs.Equality.{expr_eq}
 use Rattle.tokens.specs.Tokens.{differ}
 use Rattle.tokens.specs.Numbers.{token_of}
@@ -20,10 +19,6 @@ with_amount kind v f = kind f && expr_eq (peel (part 2 f)) v
 unfoldable pub first_of : (Field → Bool) → List Field → Field
 first_of p [] = nothing
 first_of p (f ∷ fs) = cond (p f) f (first_of p fs)
-
--- an asset parameter of the entry has no name: then an amount that is not `p.amount` passes for it
-unfoldable pub nameless : Field → Bool
-nameless entry = any (same_bytes []) (asset_params entry)
 
 -- the number of the funding token of a debit's map; 0 where there is no debit
 unfoldable pub map_number : List ℕ → Field → ℕ

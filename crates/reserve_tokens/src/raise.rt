@@ -6,30 +6,29 @@ ghost use Rattle.fields.specs.Table.{fields_at};
 ghost use Rattle.laws.specs.Lists.{any};
 ghost use Rattle.fields.specs.Field.{front};
 ghost use Rattle.walking.specs.Table.{placed_at};
-ghost use Rattle.tokens.specs.Tokens.{is_inflow, is_credit};
+ghost use Rattle.tokens.specs.Tokens.{is_credit};
 ghost use Rattle.tokens.specs.Numbers.{token_of};
 ghost use Rattle.fundings.specs.Fundings.{funding_number};
 ghost use Rattle.fundings.specs.Funded.{Funded};
-ghost use Rattle.reserve_tokens.specs.Reserving.{with_amount, nameless, map_number, Found, bars};
+ghost use Rattle.reserve_tokens.specs.Reserving.{with_amount, map_number, Found, bars};
 ghost use Rattle.reserve_tokens.specs.Numbers.{raise_number};
 ghost use Rattle.reserve_tokens.specs.Agreeing.{agreed_with, Agrees, Agreeing, RaisesOf};
 
 use super::calls::{first_debit, is_credited};
 use fields::bytes::{same_bytes, skip};
 use fundings::facts::funding_number;
+use tokens::inflow::is_listed_inflow;
 use tokens::number::token_of;
 use tokens::set::tokens_differ;
-use walking::backer::asset_amount_backer;
-use walking::parameters::has_asset_parameter;
 use walking::shape::{is_present, receiver};
 
-// An entry that raises a state field: its place in the file, the number of the token that its only such guard names, and whether
-// an asset parameter of it has no name.
+// An entry that raises a state field: its place in the file, the number of the token that its only such guard names, and how many
+// numbers are listed of its asset parameters.
 #[derive(Clone, Copy)]
 pub struct Raising {
     pub place: usize,
     pub guard: usize,
-    pub unnamed: bool,
+    pub assets: usize,
 }
 
 // What the raises so far agree on: the number of their token, 1 before the first raise and 0 where one bars the field; and the
@@ -38,26 +37,6 @@ pub struct Raising {
 pub struct Agreed {
     pub number: usize,
     pub debit: usize,
-}
-
-// Whether an asset parameter of the entry has no name.
-pub fn has_unnamed(entry: &[u8]) -> bool
-    ensures { result ≡ nameless (front entry.now) }
-{
-    has_asset_parameter(entry, &entry[..0])
-}
-
-// Whether a raise is by `p.amount`, p an asset parameter of the entry. Most raises are not, and then the parameters need not be
-// gone through, once it is known of the entry whether one of them has no name.
-fn comes_in(entry: &[u8], amount: &[u8], unnamed: bool) -> bool
-    requires { unnamed ≡ nameless (front entry.now) }
-    ensures { result ≡ is_inflow (front entry.now) (front amount.now) }
-{
-    let backer = asset_amount_backer(amount);
-    if backer.len() == 0 {
-        return unnamed;
-    }
-    has_asset_parameter(entry, backer)
 }
 
 // The number of the token of a raise by `p.amount`: that of the guard, and no call may credit the amount too.
@@ -144,15 +123,16 @@ pub fn after_raise(
     file: &[u8],
     entry: Raising,
     calls: &[u16],
+    assets: &[u16],
     amount: &[u8],
     facts: &[u16],
     agreed: Agreed,
 ) -> Agreed
-    requires entry { RaisesOf file.now facts.now entry calls.now }
+    requires entry { RaisesOf file.now facts.now entry calls.now assets.now }
     requires agreed { Agrees file.now agreed }
     ensures { Agreeing file.now agreed (raise_number file.now (placed_at file.now entry.place) (front amount.now) ∷ []) result }
 {
-    if comes_in(skip(file, entry.place), amount, entry.unnamed) {
+    if is_listed_inflow(skip(file, entry.place), assets, entry.assets, amount) {
         let number = inflow_number(file, amount, entry.guard, calls);
         return agreed_with(file, agreed, number, file.len());
     }

@@ -14,33 +14,43 @@ ghost use Rattle.reserve_tokens.specs.Numbers.{numbers_in, agreed, reserve_numbe
 ghost use Rattle.reserve_tokens.specs.Agreeing.{Agrees, Agreeing, RaisesOf};
 
 use super::guard::only_guard_number;
-use super::raise::{Agreed, Raising, after_raise, has_unnamed};
+use super::raise::{Agreed, Raising, after_raise};
 use fields::bytes::skip;
 use fields::front::{after_front, first_from, is_whole, parts_of};
 use raises::raise::{first_raise, has_raise, next_raise, raised_by};
 use raises::zero::starts_at_zero;
 use tags::{CALL, ENTRY};
 use tokens::number::token_of;
+use walking::parameters::{ASSET_NUMBERS, list_assets};
 use walking::walk::list_body;
 
-// What the raises of the state field of that name in an entry agree on with those before. The table has the places of all calls of
-// the entry.
+// What the raises of the state field of that name in an entry agree on with those before. One table has the places of all calls of
+// the entry, and another the numbers of its asset parameters.
 fn after_raises(
     file: &[u8],
     entry: Raising,
     calls: &[u16],
+    assets: &[u16],
     name: &[u8],
     facts: &[u16],
     before: Agreed,
 ) -> Agreed
-    requires entry { RaisesOf file.now facts.now entry calls.now }
+    requires entry { RaisesOf file.now facts.now entry calls.now assets.now }
     requires before { Agrees file.now before }
     ensures { Agreeing file.now before (numbers_in file.now name.now (placed_at file.now entry.place)) result }
 {
     let mut agreed = before;
     let mut t = first_raise(parts_of(skip(file, entry.place)), name);
     while is_whole(t) {
-        let next = after_raise(file, entry, calls, raised_by(name, t), facts, agreed);
+        let next = after_raise(
+            file,
+            entry,
+            calls,
+            assets,
+            raised_by(name, t),
+            facts,
+            agreed,
+        );
         if next.number == 0 {
             return next;
         }
@@ -51,14 +61,15 @@ fn after_raises(
     agreed
 }
 
-// The same of the entry at a place of the file. The lent table has a number for each three bytes of the file, and serves for its
-// calls.
+// The same of the entry at a place of the file. The scratch table has a number for each three bytes of the file, and serves for its
+// calls, and another for its asset parameters.
 fn after_entry(
     file: &[u8],
     place: usize,
     name: &[u8],
     facts: &[u16],
     before: Agreed,
+    assets: &mut [u16],
     scratch: &mut [u16],
 ) -> Agreed
     requires standing { Standing file.now place 0 }
@@ -74,9 +85,9 @@ fn after_entry(
     let entry = Raising {
         place: place,
         guard: only_guard_number(file, place),
-        unnamed: has_unnamed(skip(file, place)),
+        assets: list_assets(skip(file, place), assets),
     };
-    after_raises(file, entry, &scratch[..count], name, facts, before)
+    after_raises(file, entry, &scratch[..count], assets, name, facts, before)
 }
 
 // The number of the one token of all raises; 1 where there is no raise or one bars the field.
@@ -90,9 +101,11 @@ fn raises_number(file: &[u8], name: &[u8], facts: &[u16], scratch: &mut [u16]) -
         number: 1,
         debit: file.len(),
     };
+    let mut assets = [0u16; ASSET_NUMBERS];
     let mut t = first_from(file, ENTRY, ENTRY);
     while is_whole(t) {
-        let next = after_entry(file, file.len() - t.len(), name, facts, agreed, scratch);
+        let place = file.len() - t.len();
+        let next = after_entry(file, place, name, facts, agreed, &mut assets, scratch);
         if next.number == 0 {
             return 1;
         }

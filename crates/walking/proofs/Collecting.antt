@@ -1,14 +1,13 @@
 -- Asset parameters that are listed by two numbers each: whoever lists those that are left has listed all, and among them is one of a
 -- name exactly where some asset parameter has it, since each stands at its place and equal names have equal numbers.
-use Rattle.std.proofs.Common.{ℕ, ◌+◌, ◌-◌, ◌^◌, ◌≤◌, ◌<◌, ◌≡◌, refl, sym, ap, ◌∙◌, Bool, true, false, cond, ◌&&◌, ◌||◌, List, [], ◌∷◌, ◌++◌, map, arith, eq-eqb, ne_eqb, eqb, length}
+use Rattle.std.proofs.Common.{ℕ, ◌+◌, ◌-◌, ◌^◌, ◌≤◌, ◌<◌, ◌≡◌, refl, sym, ap, ◌∙◌, Bool, true, false, cond, ◌||◌, List, [], ◌∷◌, ◌++◌, map, arith, length}
 use Rattle.std.proofs.Common.{get_or, take, drop, length-take, length-drop}
 use mathlib.Core.List.{flat_map}
-use mathlib.Core.Bool.{and-false}
 use Rattle.laws.specs.Lists.{any, filter}
 use Rattle.laws.specs.Texts.{same_bytes}
-use Rattle.laws.proofs.Lists.{Every, every-filter}
+use Rattle.laws.proofs.Lists.{Every, every-filter, no-elements}
 use Rattle.laws.proofs.Slices.{drop-step}
-use Rattle.laws.proofs.Texts.{bytes-equal}
+use Rattle.laws.proofs.Texts.{bytes-symmetric}
 use Rattle.tags.specs.Tag.{Parameter, between}
 use Rattle.fields.specs.Number.{short_number}
 use Rattle.fields.specs.Table.{Listed}
@@ -18,6 +17,7 @@ use Rattle.fields.proofs.Tables.{listed-none, listed_then, listed-front, listed-
 use Rattle.fields.proofs.Inside.{Stands, parts-stand}
 use Rattle.model.specs.Model.{name_of, params}
 use Rattle.walking.specs.Walking.{is_asset_parameter, asset_params, without_places}
+use Rattle.walking.proofs.Numbered.{other-number, equal-number, number-told}
 use Rattle.walking.specs.Assets.{parameter_numbers, asset_numbers, named_by, Assets}
 
 -- Listing them
@@ -98,24 +98,20 @@ among s name [] = false
 among s name (k ∷ []) = false
 among s name (k ∷ place ∷ ks) = named_by s name k place || among s name ks
 
--- what the code tests: where the numbers differ, so do the names
+-- what the code tests: the names are compared where the numbers are equal
 module _ (s name : List ℕ) (own number place : ℕ) (e : own ≡ short_number name) where
-  pub other-number : (number ≡ own → ⊥) → false ≡ named_by s name number place
+  pub not-named : (number ≡ own → ⊥) → false ≡ named_by s name number place
   unfolding named_by
-  other-number n = rw (ne_eqb number (short_number name) (λ h. n (h ∙ sym e)))
+  not-named = other-number name own number e (same_bytes name (name_of (front (drop place s))))
 
   pub by-name : number ≡ own → (x : List ℕ) → x ≡ drop place s → (y : List ℕ) → y ≡ name_of (front x) → (b : Bool) → b ≡ same_bytes name y → b ≡ named_by s name number place
   unfolding named_by
-  by-name h x f y g b k = k ∙ rw (eq-eqb number (short_number name) (h ∙ e), ← f, ← g)
+  by-name h x f y g b k = equal-number name own number e b h ∙ rw (k, g, f)
 
 -- a parameter that stands in s has a name exactly where its numbers do
 numbered : (s name : List ℕ) (p : Placed) → Stands s p → named_by s name (short_number (name_of p.this)) p.place ≡ same_bytes name (name_of p.this)
 unfolding named_by
-numbered s name p e = rw e (go (same_bytes name (name_of p.this)) refl)
-  where
-    go : (b : Bool) → same_bytes name (name_of p.this) ≡ b → eqb (short_number (name_of p.this)) (short_number name) && b ≡ b
-    go true h = rw (bytes-equal name (name_of p.this) h, eq-eqb (short_number (name_of p.this)) _ refl)
-    go false h = and-false (eqb (short_number (name_of p.this)) (short_number name))
+numbered s name p e = rw (e, bytes-symmetric name (name_of p.this)) (number-told (name_of p.this) name)
 
 among-placed : (s name : List ℕ) (ps : List Placed) → Every (Stands s) ps →
     among s name (flat_map parameter_numbers ps) ≡ any (same_bytes name) (map name_of (filter is_asset_parameter (without_places ps)))
@@ -136,6 +132,12 @@ among-all s name =
     among-placed s name (placed_from Parameter Parameter 3 (parts (front s)))
     (every-filter (Stands s) (λ p. between Parameter Parameter (tag p.this)) (placed 3 (parts (front s))) (parts-stand s (record { place = 0; this = front s }) refl))
     ∙ ap (λ fs. any (same_bytes name) (map name_of (filter is_asset_parameter fs))) (placed_row Parameter Parameter 3 (parts (front s)))
+
+-- where none is listed, none has a name
+pub no-assets : (s x table last : List ℕ) (count : ℕ) → x ≡ s → Listed (asset_numbers (front x)) table 0 last count → count ≡ 0 → (name : List ℕ) →
+    any (same_bytes name) (asset_params (front s)) ≡ false
+unfolding among
+no-assets s x table last count e p h name = sym (among-all s name) ∙ rw (← e, no-elements (asset_numbers (front x)) (omega (arith, p.count, h)))
 
 pub record Among (s name l : List ℕ) (i : ℕ) : Type 0 where
   pub within : i ≤ length l

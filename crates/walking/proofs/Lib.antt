@@ -1,4 +1,5 @@
 pub mod Assets
+pub mod Numbered
 pub mod Collecting
 pub mod Within
 pub mod Places

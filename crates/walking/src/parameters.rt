@@ -101,8 +101,8 @@ pub fn list_assets(s: &[u8], table: &mut [u16]) -> usize
     n
 }
 
-// Whether the two listed numbers are those of a parameter of that name, which has its number. A name is read only where the number
-// is equal.
+// Whether two listed numbers are those of a parameter of that name, which has the number `own`. A name is read only where the numbers
+// are equal.
 fn is_named(s: &[u8], name: &[u8], own: usize, number: usize, place: usize) -> bool
     requires { own ≡ short_number name.now }
     ensures { result ≡ named_by s.now name.now number place }

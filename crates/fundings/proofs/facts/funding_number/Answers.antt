@@ -1,12 +1,12 @@
--- What is found through the listed calls is the set of all.
-use Rattle.fundings.proofs.Through.{through-fits, through-room, through-listed}
+-- The number that is listed of the map is that of all.
+use Rattle.fundings.proofs.Relisting.{listed-room, listed-fits, listed-number}
 use Rattle.fundings.proofs.facts.funding_number.Goals as goal
 
 pub overflow_add-count : goal.overflow_add-count
-overflow_add-count c = search through-fits
+overflow_add-count c = search listed-fits
 
-pub slice_bounds-found_through-end : goal.slice_bounds-found_through-end
-slice_bounds-found_through-end c = search through-room
+pub slice_bounds-number_of_map-end : goal.slice_bounds-number_of_map-end
+slice_bounds-number_of_map-end c = search listed-room
 
 pub returns : goal.returns
-returns c = search through-listed
+returns c = search listed-number

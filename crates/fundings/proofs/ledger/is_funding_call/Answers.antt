@@ -1,5 +1,5 @@
 -- The first of the two tests that fails decides, and the last where none does.
-use Rattle.fundings.proofs.Filling.{no-credit, by-amount}
+use Rattle.fundings.proofs.Calls.{no-credit, by-amount}
 use Rattle.fundings.proofs.ledger.is_funding_call.Goals as goal
 
 pub returns-then-not-is_credit : goal.returns-then-not-is_credit

@@ -1,10 +1,9 @@
--- Both numbers are written, or none.
-use Rattle.fundings.proofs.Filling.{noted-room, noted-both}
-use Rattle.std.proofs.Common.{rules}
+-- A call that funds some map funds its own.
+use Rattle.fundings.proofs.Joins.{joins-nothing, joins-own}
 use Rattle.fundings.proofs.ledger.list_call.Goals as goal
 
-pub note-requires : goal.note-requires
-note-requires c = (search rules, search noted-room)
+pub returns-then-not-is_funding_call : goal.returns-then-not-is_funding_call
+returns-then-not-is_funding_call c = search joins-nothing
 
 pub returns : goal.returns
-returns c = search noted-both
+returns c = search joins-own

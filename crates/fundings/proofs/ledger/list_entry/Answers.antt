@@ -1,23 +1,23 @@
--- A table that has room for all calls holds them: the small one where the count says so, and the large one always.
+-- Without asset parameters no call funds a map; none of those before the first that does has to be asked again.
 use Rattle.std.proofs.Common.{rules}
-use Rattle.laws.proofs.Slices.{take_count}
-use Rattle.fundings.proofs.Filling.{no-fundings, room-made, calls-room, calls_count, calls-front}
+use Rattle.walking.proofs.Collecting.{assets-listed}
+use Rattle.fundings.proofs.Joins.{joins-unasked, joins-free, joins-from, funder-known}
 use Rattle.fundings.proofs.ledger.list_entry.Goals as goal
 
-pub returns-then-count_asset_parameters-eq0 : goal.returns-then-count_asset_parameters-eq0
-returns-then-count_asset_parameters-eq0 c = search no-fundings
+pub returns-then-count-eq0 : goal.returns-then-count-eq0
+returns-then-count-eq0 c = search joins-unasked
 
-pub slice_bounds-list_calls_of-end : goal.slice_bounds-list_calls_of-end
-slice_bounds-list_calls_of-end c = take_count _ _ (search rules)
+pub list_many-requires-clause-assets : goal.list_many-requires-clause-assets
+list_many-requires-clause-assets c = search assets-listed
 
-pub list_calls_of-requires-clause-listed : goal.list_calls_of-requires-clause-listed
-list_calls_of-requires-clause-listed c = search (calls-front, rules)
+pub first_funding-first-requires : goal.first_funding-first-requires
+first_funding-first-requires c = search assets-listed
 
-pub slice_bounds-many-end : goal.slice_bounds-many-end
-slice_bounds-many-end c = search (calls-room, room-made, rules)
+pub returns-then-first-listed : goal.returns-then-first-listed
+returns-then-first-listed c = search (joins-free, rules)
 
-pub slice_bounds-list_calls_of-end-2 : goal.slice_bounds-list_calls_of-end-2
-slice_bounds-list_calls_of-end-2 c = search (calls_count, room-made, rules)
+pub list_calls-requires-clause-entry : goal.list_calls-requires-clause-entry
+list_calls-requires-clause-entry c = search (funder-known, assets-listed)
 
-pub list_calls_of-requires-2-clause-listed : goal.list_calls_of-requires-2-clause-listed
-list_calls_of-requires-2-clause-listed c = calls-front _ _ _ _ _ c.list_body-all.ensures (search (room-made, rules))
+pub returns : goal.returns
+returns c = search (joins-from, rules)

@@ -1,12 +1,12 @@
 -- For `p.amount` the guard decides, for any other raise the first debit of the amount.
-use Rattle.reserve_tokens.proofs.Reserving.{unnamed_here, raise-comes-in, raise-debited}
+use Rattle.reserve_tokens.proofs.Reserving.{assets-here, raise-comes-in, raise-debited}
 use Rattle.reserve_tokens.proofs.raise.after_raise.Goals as goal
 
-pub comes_in-requires : goal.comes_in-requires
-comes_in-requires c = search unnamed_here
+pub is_listed_inflow-requires : goal.is_listed_inflow-requires
+is_listed_inflow-requires c = search assets-here
 
-pub returns-then-comes_in : goal.returns-then-comes_in
-returns-then-comes_in c = search raise-comes-in
+pub returns-then-is_listed_inflow : goal.returns-then-is_listed_inflow
+returns-then-is_listed_inflow c = search raise-comes-in
 
 pub returns : goal.returns
 returns c = search raise-debited
