@@ -1,5 +1,5 @@
 -- A number made of a text's bytes.
-use Rattle.std.specs.Prelude.{ℕ, ◌+◌, ◌*◌, ◌/◌, ◌%◌, List, [], ◌∷◌}
+use Rattle.std.specs.Prelude.{ℕ, ◌+◌, ◌*◌, ◌/◌, ◌%◌, List, [], ◌∷◌, take}
 
 -- behind bytes with the number n
 unfoldable pub number_from : (base n : ℕ) → List ℕ → ℕ
@@ -10,6 +10,6 @@ number_from base n (x ∷ xs) = number_from base ((n + x) * base % 4294967296) x
 abbrev pub text_number : (base : ℕ) → List ℕ → ℕ
 text_number base s = number_from base 0 s
 
--- its upper half in one base, which has two bytes
+-- of two bytes: the upper half of that of the first bytes, in one base
 abbrev pub short_number : List ℕ → ℕ
-short_number s = text_number 1640531527 s / 65536
+short_number s = text_number 1640531527 (take 32 s) / 65536

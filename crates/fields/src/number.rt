@@ -2,6 +2,8 @@
 ghost use Rattle.std.specs.Prelude.{◌≡◌, ◌<◌};
 ghost use Rattle.fields.specs.Number.{text_number, short_number};
 
+use super::bytes::keep;
+
 // The number of a text in an odd base, below 2 to the 32nd. Its upper bits differ also where only the last bytes do.
 pub fn text_number(s: &[u8], base: usize) -> usize
     requires { base < 2147483648 }
@@ -17,10 +19,11 @@ pub fn text_number(s: &[u8], base: usize) -> usize
     number
 }
 
-// The upper half of its number in one base: two bytes.
+// A number of two bytes: the upper half of the number, in one base, of the first bytes of a text. The others are left to the
+// comparison of those texts whose numbers are equal, so that a long text takes no longer than a name.
 pub fn short_number(s: &[u8]) -> usize
     ensures same { result ≡ short_number s.now }
     ensures small { result < 65536 }
 {
-    text_number(s, 1640531527) / 65536
+    text_number(keep(s, 32), 1640531527) / 65536
 }

@@ -1,6 +1,6 @@
 -- A statement that lowers a field by an amount has the field as its target, so it is among those that are listed for the amount, by
 -- its target's name. Each takes nine bytes at least.
-use Rattle.std.proofs.Common.{ℕ, ◌+◌, ◌*◌, ◌%◌, ◌≤◌, ◌<◌, ◌≡◌, refl, sym, ◌∙◌, Bool, true, false, cond, not, ◌&&◌, ◌||◌, List, [], ◌∷◌, ◌++◌, arith, mod-eq_of_lt, eq-eqb, leb-true, le-leb, eqb, leb}
+use Rattle.std.proofs.Common.{ℕ, ◌+◌, ◌*◌, ◌%◌, ◌≤◌, ◌<◌, ◌≡◌, refl, sym, ◌∙◌, Bool, true, false, cond, not, ◌&&◌, ◌||◌, List, [], ◌∷◌, ◌++◌, arith, mod-eq_of_lt, leb-true, le-leb, eqb, leb}
 use Rattle.std.proofs.Common.{length, take, drop, length-append, length-drop, length-take-le}
 use mathlib.Core.Bool.{and-false}
 use mathlib.Core.List.{flat_map}
@@ -24,6 +24,7 @@ use Rattle.fields.proofs.Listing.{Row}
 use Rattle.model.specs.Model.{body}
 use Rattle.walking.specs.Walking.{peel, peel_first}
 use Rattle.walking.specs.Table.{placed_at}
+use Rattle.walking.proofs.Numbered.{number-told}
 use Rattle.equality.specs.Equality.{expr_eq}
 use Rattle.equality.proofs.Equality.{nothing_left}
 use Rattle.raises.specs.Raises.{assigns, value, sets_from}
@@ -161,13 +162,6 @@ module _ (amount : Field) (file : List ℕ) (place : ℕ) where
 -- Read back, the numbers tell whether r is lowered
 
 module _ (amount : Field) (file r : List ℕ) where
-  names-decide : (a : List ℕ) → eqb (short_number a) (short_number r) && same_bytes a r ≡ same_bytes a r
-  names-decide a = go (same_bytes a r) refl
-    where
-      go : (k : Bool) → same_bytes a r ≡ k → eqb (short_number a) (short_number r) && k ≡ k
-      go true e = rw (bytes-equal a r e, eq-eqb (short_number r) (short_number r) refl)
-      go false e = and-false (eqb (short_number a) (short_number r))
-
   one-read : (n : ℕ) (f : Field) → front (drop n file) ≡ f → n < 65536 → (ks : List ℕ) →
       lowered_in file r (lowering_at amount (record { place = n; this = f }) ++ ks) ≡ lowers amount r f || lowered_in file r ks
   unfolding lowering_at lowered_in
@@ -175,7 +169,7 @@ module _ (amount : Field) (file r : List ℕ) where
     where
       go : (k : Bool) → is_lowering amount f ≡ k →
           lowered_in file r (cond k (short_number (target f) ∷ n % 65536 ∷ []) [] ++ ks) ≡ lowers amount r f || lowered_in file r ks
-      go true i = rw (mod-eq_of_lt l, e, names-decide (target f), ← lowers-by amount r f, i)
+      go true i = rw (mod-eq_of_lt l, e, number-told (target f) r, ← lowers-by amount r f, i)
       go false i = rw (← lowers-by amount r f, i)
 
   row-read : (n : ℕ) (fs : Fields) → Every (Stands file) (placed n fs) → n + sizes fs ≤ 65538 →

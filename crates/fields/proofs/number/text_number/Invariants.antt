@@ -16,11 +16,11 @@ module _ (s : List ℕ) (base number i : ℕ) (v : Numbering s base number i) wh
   pub more : i < length s → Numbering s base ((number + get_or s i 0) * base % 4294967296) (i + 1)
   unfolding number_from
   more h =
-      record
-        { within = omega arith
-        ; small = mod-lt ((number + get_or s i 0) * base) (omega arith)
-        ; left = rw (drop-step s i h) at v.left
-        }
+      record {
+        within = omega arith;
+        small = mod-lt ((number + get_or s i 0) * base) (omega arith);
+        left = rw (drop-step s i h) at v.left;
+      }
 
   pub all : length s ≤ i → number ≡ text_number base s
   unfolding number_from
