@@ -5,7 +5,7 @@
 //! Each time is taken in a process of its own, so that a file that takes too
 //! long can be given up.
 
-mod files;
+pub mod files;
 
 use files::Sample;
 use model_file::decode;
@@ -100,23 +100,25 @@ fn usage() -> ExitCode {
 }
 
 fn table(measures: &[Measure], limit: Duration) {
-    print!("{:34} {:>6} {:>8}", "file", "bytes", "entries");
+    print!("{:36} {:>6} {:>8}", "file", "bytes", "entries");
     for measure in measures {
         print!(" {:>12}", measure.name);
     }
     println!();
     for sample in files::samples() {
-        let contract = decode(&sample.file).expect("the samples are model files");
+        let file = sample.file();
+        let contract = decode(&file).expect("the samples are model files");
         let entries = Model::build(&contract).entries.len();
-        print!("{:34} {:>6} {entries:>8}", sample.name, sample.file.len());
+        print!("{:36} {:>6} {entries:>8}", sample.name, file.len());
         row(measures, &sample, limit);
         println!();
     }
 }
 
-/// How often each time is taken. The measures take turns, so that a spell in
-/// which the machine is slow does not fall on one of them alone.
-const TURNS: usize = 10;
+/// How often each time is taken that is short beside the limit. The measures
+/// take turns, so that a spell in which the machine is slow does not fall on one
+/// of them alone.
+const TURNS: u32 = 10;
 
 /// The times of one file, and their ratios to the first.
 fn row(measures: &[Measure], sample: &Sample, limit: Duration) {
@@ -133,15 +135,15 @@ fn row(measures: &[Measure], sample: &Sample, limit: Duration) {
     }
 }
 
-/// The best time of each measure; nothing where one takes too long, which is
-/// then not tried again.
+/// The best time of each measure; nothing where one takes too long.
 fn best_times(measures: &[Measure], sample: &Sample, limit: Duration) -> Vec<Option<Duration>> {
-    let mut best = vec![Some(Duration::MAX); measures.len()];
-    for _ in 0..TURNS {
+    let timed = |measure: &Measure| in_a_process(sample.name, measure.name, limit);
+    let mut best: Vec<Option<Duration>> = measures.iter().map(timed).collect();
+    for _ in 1..TURNS {
         for (measure, best) in measures.iter().zip(&mut best) {
-            *best = best.and_then(|best| {
-                in_a_process(sample.name, measure.name, limit).map(|time| best.min(time))
-            });
+            if best.is_some_and(|time| time < limit / TURNS) {
+                *best = (*best).min(timed(measure));
+            }
         }
     }
     best
@@ -192,13 +194,13 @@ fn one(measures: &[Measure], sample: &str, measure: &str) {
     let (Some(sample), Some(measure)) = (sample, measure) else {
         panic!("no such sample or measure");
     };
-    println!("{}", (measure.time)(&sample.file).as_nanos());
+    println!("{}", (measure.time)(&sample.file()).as_nanos());
 }
 
 fn write(folder: &Path) {
     for sample in files::samples() {
         let path = folder.join(sample.name.replace(' ', "-"));
-        std::fs::write(&path, sample.file)
+        std::fs::write(&path, sample.file())
             .unwrap_or_else(|why| panic!("{} cannot be written: {why}", path.display()));
     }
 }

@@ -1,0 +1,85 @@
+// SPDX-License-Identifier: Apache-2.0 OR MIT
+//! Files whose state fields' names are compared again and again, and names that
+//! have one number.
+
+use super::{largest, sample, short_state, Sample};
+use generator::construct::entry;
+use model_file::Field;
+
+pub const SAMPLES: &[Sample] = &[
+    sample("names of one number", || largest(names_of_one_number)),
+    sample("short names of few places", || largest(names_of_few_places)),
+];
+
+/// All texts of so many characters, in order.
+fn texts(length: u32) -> impl Iterator<Item = String> {
+    let character = |number: usize| char::from(b' ' + number as u8);
+    (0..95usize.pow(length)).map(move |number| {
+        let digits = (0..length).rev().map(|power| number / 95usize.pow(power));
+        digits.map(|digit| character(digit % 95)).collect()
+    })
+}
+
+/// State fields of these names, and an entry.
+fn named(names: impl Iterator<Item = String>) -> Vec<Field> {
+    let fields = names.map(|name| short_state(&name));
+    fields.chain([entry("f", vec![])]).collect()
+}
+
+/// The number that a name had in the table of question 7 while it was the same
+/// in all files: one of 128 notes at one of 16,384 places.
+fn name_number(name: &str) -> usize {
+    let number = |number, byte| (number * 137 + usize::from(byte)) % 2_097_152;
+    name.bytes().fold(0, number)
+}
+
+/// State fields of which each one's name is compared with all before it: their
+/// names have one number. The last two characters are worked out from the rest.
+fn names_of_one_number(count: usize) -> Vec<Field> {
+    let ended = |front: String| {
+        let missing = (3_097_152 - name_number(&format!("{front}  "))) % 2_097_152;
+        let character = |number: usize| char::from(b' ' + number as u8);
+        let fits = missing / 137 < 95 && missing % 137 < 95;
+        fits.then(|| {
+            format!(
+                "{front}{}{}",
+                character(missing / 137),
+                character(missing % 137)
+            )
+        })
+    };
+    named(texts(3).filter_map(ended).take(count))
+}
+
+/// The same with shorter names, which share a few places: a place with two
+/// different notes no longer tells which names it has.
+fn names_of_few_places(count: usize) -> Vec<Field> {
+    let shared = |name: &String| name_number(name) % 16_384 < 64;
+    named(texts(3).filter(shared).take(count))
+}
+
+/// The number that is compared before a name is: the upper half of this.
+fn text_number(text: &str) -> u32 {
+    let number = |number: u32, byte| number.wrapping_add(u32::from(byte)).wrapping_mul(BASE);
+    text.bytes().fold(0, number)
+}
+
+const BASE: u32 = 1_640_531_527;
+
+/// At most 1,200 texts of four characters for which it is the same. The number
+/// of the last two characters is looked for that makes it so.
+pub fn of_one_short_number(count: usize) -> Vec<String> {
+    let mut ends: Vec<(u32, String)> = texts(2).map(|text| (text_number(&text), text)).collect();
+    ends.sort();
+    let ended = |front: String| {
+        let shifted = text_number(&front).wrapping_mul(BASE).wrapping_mul(BASE);
+        let least = 0x8000_0000_u32.wrapping_sub(shifted);
+        let first = ends.partition_point(|(number, _)| *number < least);
+        let fit = ends[first..]
+            .iter()
+            .take_while(|(number, _)| number - least < 0x1_0000);
+        fit.map(|(_, end)| format!("{front}{end}"))
+            .collect::<Vec<_>>()
+    };
+    texts(2).flat_map(ended).take(count).collect()
+}
