@@ -3,12 +3,12 @@
 //! questions about a file. A hostile one has many of two or three things, each
 //! of one kind met with each of another, and says which in its comment.
 
-pub mod amounts;
-pub mod guards;
-pub mod maps;
-pub mod names;
-pub mod reserves;
-pub mod typical;
+mod amounts;
+mod guards;
+mod maps;
+mod names;
+mod reserves;
+mod typical;
 
 use generator::construct::*;
 use model_file::{tag, Field, SIZE_LIMIT};
@@ -45,7 +45,7 @@ const fn sample(name: &'static str, make: fn() -> Vec<Field>) -> Sample {
 }
 
 /// The largest file of a family that grows.
-pub fn largest(make: impl Fn(usize) -> Vec<Field>) -> Vec<Field> {
+fn largest(make: impl Fn(usize) -> Vec<Field>) -> Vec<Field> {
     let fits = |count| model_file::write(&make(count)).is_ok_and(|file| file.len() <= SIZE_LIMIT);
     let mut count = 1;
     while fits(2 * count) {
@@ -86,7 +86,7 @@ fn credits(map: &str, token: Field) -> Field {
 }
 
 /// An amount that contains what came in and that no backing equals.
-pub fn of_inflow() -> Field {
+fn of_inflow() -> Field {
     negate(amount_of("a"))
 }
 
@@ -112,24 +112,24 @@ fn lowered(field: &str) -> Field {
 }
 
 /// A parameter with short names: many of them are few bytes.
-pub fn short_parameter() -> Field {
+fn short_parameter() -> Field {
     parameter("b", "u")
 }
 
 /// A state field with a short type name.
-pub fn short_state(name: &str) -> Field {
+fn short_state(name: &str) -> Field {
     let name = Field::bytes(tag::NAME, name);
     Field::parts(tag::STATE, vec![name, Field::bytes(tag::TYPE_NAME, "u")])
 }
 
 /// The text of a number in so many characters.
-pub fn numbered(number: usize, length: u32) -> String {
+fn numbered(number: usize, length: u32) -> String {
     let character = |power| char::from(b'0' + (number / 79usize.pow(power) % 79) as u8);
     (0..length).rev().map(character).collect()
 }
 
 /// An expression inside so many wrappers.
-pub fn wrapped(count: usize, inner: Field) -> Field {
+fn wrapped(count: usize, inner: Field) -> Field {
     (0..count).fold(inner, |inner, _| checked(inner))
 }
 

@@ -4,11 +4,12 @@
 //! A checker is asked for whole listings ([`compare_listings`]) or, in this
 //! process, for the verdict and covers of single entries
 //! ([`compare_in_process`]). The first difference is made as small as it goes.
+//! One file that is at hand is compared by [`difference_on`].
 
 mod process;
 mod shrink;
 
-pub use process::{compare_in_process, original, write_covers, Verdict};
+pub use process::{compare_in_process, difference_on, original, write_covers, Verdict};
 pub use shrink::shrunk;
 
 use std::fmt::{Display, Formatter};

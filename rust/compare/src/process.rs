@@ -41,11 +41,7 @@ pub fn compare_in_process(
     seeds: Range<u64>,
     check: impl Fn(&[u8], usize, &mut [u8]) -> Verdict,
 ) -> Option<Difference> {
-    let first = |seed, file: &[u8]| {
-        questions(seed, file)
-            .into_iter()
-            .find(|q| differs(&check, file, *q))
-    };
+    let first = |seed, file: &[u8]| first_differing(seed, file, &check);
     let (seed, file) = first_difference(seeds, |seed, file| first(seed, file).is_some())?;
     let question = first(seed, &file)?;
     let file = shrunk(file, &mut |smaller| differs(&check, smaller, question));
@@ -55,6 +51,30 @@ pub fn compare_in_process(
         found: format!("{:X?}\n", found(&check, &file, question)),
         file,
     })
+}
+
+/// The first difference on one file, which stays as it is, in words. The
+/// lengths of the covers are those of a seed.
+pub fn difference_on(
+    file: &[u8],
+    seed: u64,
+    check: impl Fn(&[u8], usize, &mut [u8]) -> Verdict,
+) -> Option<String> {
+    let question = first_differing(seed, file, &check)?;
+    let expected = found(&original, file, question);
+    let found = found(&check, file, question);
+    Some(format!("{question:?}: {found:X?}, expected {expected:X?}"))
+}
+
+/// The first question about a file that a checker answers otherwise than the
+/// original.
+fn first_differing(
+    seed: u64,
+    file: &[u8],
+    check: &impl Fn(&[u8], usize, &mut [u8]) -> Verdict,
+) -> Option<Question> {
+    let mut questions = questions(seed, file).into_iter();
+    questions.find(|question| differs(check, file, *question))
 }
 
 /// The entries to ask about, each with a length that depends on the seed.

@@ -1,6 +1,7 @@
 // SPDX-License-Identifier: Apache-2.0 OR MIT
 //! Files whose amounts are compared again and again.
 
+use super::names::of_one_short_number;
 use super::{largest, pays, sample, short_parameter, wrapped, Sample};
 use generator::construct::*;
 use model_file::{tag, Field};
@@ -10,8 +11,8 @@ pub const SAMPLES: &[Sample] = &[
     sample("32 payouts of 32 longer debits", || payouts(32, 25)),
     sample("64 payouts of 64 long debits", || payouts(64, 17)),
     sample("64 payouts of one long amount", || equal_payouts(64, 17)),
-    sample("wide", || wide()),
-    sample("deep nesting", || deep_nesting()),
+    sample("wide", wide),
+    sample("deep nesting", deep_nesting),
     sample("bounding chains", || {
         largest(|n| vec![chains(40, 23, 29); n])
     }),
@@ -20,7 +21,13 @@ pub const SAMPLES: &[Sample] = &[
     }),
     sample("members and parameters", || largest(members_and_parameters)),
     sample("members, parameters and nesting", || {
-        largest(|n| members_parameters_and_nesting(11 * n, 10 * n))
+        let parts = |n| vec![short_parameter(); n];
+        largest(|n| members_parameters_and_nesting(11 * n, member(caller(), "x"), parts(10 * n)))
+    }),
+    sample("members, parameters of one number", || {
+        let names = of_one_short_number(2);
+        let parts = || vec![asset(&names[0]); 64];
+        largest(|n| members_parameters_and_nesting(n, amount_of(&names[1]), parts()))
     }),
     sample("conditions and parameters", || {
         largest(conditions_and_parameters)
@@ -96,7 +103,7 @@ fn conditions_and_parameters(count: usize) -> Vec<Field> {
 /// Payouts of one debit each, which bounds the amount, behind debits that do
 /// not: each payout's amount is taken apart for each of these. At each wrapper
 /// around it all that are inside are peeled.
-pub fn chains(others: usize, payouts: usize, wrappers: usize) -> Field {
+fn chains(others: usize, payouts: usize, wrappers: usize) -> Field {
     let amount = || wrapped(wrappers, binary(DIVIDED, identifier("n"), now()));
     let mut parts = vec![statement(debit("m", identifier("o"))); others];
     parts.extend(vec![statement(debit("m", identifier("n"))); payouts]);
@@ -106,7 +113,7 @@ pub fn chains(others: usize, payouts: usize, wrappers: usize) -> Field {
 
 /// The same, and at each wrapper the amount is compared with those of the other
 /// debits, which are long and differ from it at the end.
-pub fn bounding(others: usize, payouts: usize, wrappers: usize, length: usize) -> Vec<Field> {
+fn bounding(others: usize, payouts: usize, wrappers: usize, length: usize) -> Vec<Field> {
     let long = || call(now(), vec![now(); length]);
     let amount = |right: Field| binary(DIVIDED, long(), right);
     let mut parts = vec![statement(debit("m", amount(caller()))); others];
@@ -116,14 +123,17 @@ pub fn bounding(others: usize, payouts: usize, wrappers: usize, length: usize) -
     vec![entry("f", parts)]
 }
 
-/// Payouts in each other's amount around many members, none of which is an
-/// asset parameter's amount, in an entry with many parameters and an assignment.
-/// Each payout's amount is looked into, and for each member the parameters.
-pub fn members_parameters_and_nesting(members: usize, parameters: usize) -> Vec<Field> {
-    let amount = call(now(), vec![member(caller(), "x"); members]);
+/// Payouts in each other's amount around a member many times that is no asset
+/// parameter's amount, in an entry with many parameters and an assignment. Each
+/// payout's amount is looked into, and for each member the parameters.
+fn members_parameters_and_nesting(
+    count: usize,
+    member: Field,
+    parameters: Vec<Field>,
+) -> Vec<Field> {
+    let amount = call(now(), vec![member; count]);
     let paid = (0..29).fold(amount, |inner, _| send(now(), inner));
-    let mut parts = vec![short_parameter(); parameters];
-    parts.push(assign(tag::SET, now(), now()));
-    parts.push(statement(paid));
+    let mut parts = parameters;
+    parts.extend([assign(tag::SET, now(), now()), statement(paid)]);
     vec![entry("f", parts)]
 }

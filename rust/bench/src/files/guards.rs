@@ -97,7 +97,7 @@ fn states_and_guards(count: usize) -> Vec<Field> {
 
 /// Guards of a payout's amount on the last of many state fields, which holds no
 /// token.
-pub fn guards_of_the_last(guards: usize, states: usize) -> Vec<Field> {
+fn guards_of_the_last(guards: usize, states: usize) -> Vec<Field> {
     let mut fields: Vec<Field> = (0..states).map(|i| short_state(&numbered(i, 2))).collect();
     let last = numbered(states - 1, 2);
     let mut parts = vec![asset("a")];
@@ -108,7 +108,7 @@ pub fn guards_of_the_last(guards: usize, states: usize) -> Vec<Field> {
 }
 
 /// Guards of a payout's amount on a state field, and lowerings of another by it.
-pub fn guards_and_lowerings_by_names(guards: usize, lowerings: usize) -> Vec<Field> {
+fn guards_and_lowerings_by_names(guards: usize, lowerings: usize) -> Vec<Field> {
     let mut parts = vec![asset("a")];
     parts.extend(vec![held("r"); guards]);
     parts.extend(vec![lowered("s"); lowerings]);
@@ -118,7 +118,7 @@ pub fn guards_and_lowerings_by_names(guards: usize, lowerings: usize) -> Vec<Fie
 
 /// A statement many times whose amount no payout has, and 64 payouts that each
 /// time are peeled.
-pub fn beside_wrapped_payouts(part: Field, count: usize) -> Vec<Field> {
+fn beside_wrapped_payouts(part: Field, count: usize) -> Vec<Field> {
     let paid = statement(send(now(), wrapped(28, of_inflow())));
     let mut parts = vec![asset("a"), lowered("r")];
     parts.extend(vec![part; count]);
@@ -127,9 +127,9 @@ pub fn beside_wrapped_payouts(part: Field, count: usize) -> Vec<Field> {
 }
 
 /// Lowerings by an amount that differs from those of 64 payouts at the end.
-pub fn beside_long_payouts(lowerings: usize, length: usize) -> Vec<Field> {
+fn beside_long_payouts(lowerings: usize, length: usize) -> Vec<Field> {
     let amount = |last: Field| {
-        let front = vec![vec![amount_of("a")], vec![now(); length]].concat();
+        let front = [vec![amount_of("a")], vec![now(); length]].concat();
         call(now(), [front, vec![last]].concat())
     };
     let mut parts = vec![asset("a")];
@@ -140,7 +140,7 @@ pub fn beside_long_payouts(lowerings: usize, length: usize) -> Vec<Field> {
 
 /// Guards of a payout's amount on a state field whose token differs from the
 /// payout's at the end of a long name.
-pub fn guards_and_token(guards: usize, length: usize) -> Vec<Field> {
+fn guards_and_token(guards: usize, length: usize) -> Vec<Field> {
     let token = |last: &str| format!("{}{last}", "T".repeat(length));
     let raise = assign(tag::ADD, identifier("r"), amount_of("a"));
     let mut parts = vec![asset("a")];

@@ -13,16 +13,18 @@ pub const SAMPLES: &[Sample] = &[
     sample("many maps", || many_maps(31)),
     sample("debits and crediting entries", debits_and_credits),
     sample("credits of the last parameter", || {
-        largest(|n| credits_and_parameters(n, 2 * n, "a"))
+        largest(|n| credits_and_parameters(n, 2 * n, ["b", "a", "a"]))
     }),
     sample("credits of no parameter", || {
-        largest(|n| credits_and_parameters(n, 2 * n, "c"))
+        largest(|n| credits_and_parameters(n, 2 * n, ["b", "a", "c"]))
     }),
     sample("short credits and parameters", || {
         largest(|n| short_credits_and_parameters(3 * n, 5 * n))
     }),
-    sample("parameters of one number", || {
-        largest(|n| parameters_of_one_number(2 * n, 3 * n))
+    sample("credits, parameters of one number", || {
+        let names = of_one_short_number(2);
+        let of = [0, 1, 1].map(|i: usize| names[i].as_str());
+        largest(|n| credits_and_parameters(2 * n, 3 * n, of))
     }),
     sample("many funding calls", || largest(|n| many_fundings(966, n))),
     sample("many funding calls and raises", || {
@@ -99,27 +101,34 @@ fn fundings(count: usize, maps: &[&str]) -> Vec<Field> {
     })
 }
 
-/// An entry that pays what it debits.
-fn pays_debit(map: &str) -> Field {
-    let paid = call(
-        identifier("send_asset"),
-        vec![now(), debit(map, now()), now()],
-    );
-    entry("p", vec![statement(paid)])
+/// A payout of what it debits.
+fn sends_debit(token: Field, map: &str) -> Field {
+    let parts = vec![token, debit(map, now()), now()];
+    call(identifier("send_asset"), parts)
 }
 
-/// An entry with many parameters, the last of them "a", and many calls that
-/// would credit the amount of one: for each call all parameters are looked at.
-pub fn credits_and_parameters(credits: usize, parameters: usize, of: &str) -> Vec<Field> {
-    let mut parts = vec![asset("b"); parameters];
-    parts.push(asset("a"));
+/// An entry with one.
+fn pays_debit(map: &str) -> Field {
+    entry("p", vec![statement(sends_debit(now(), map))])
+}
+
+/// An entry with many parameters of one name and a last one of another, and many
+/// calls that would credit the amount of a third: for each call all parameters
+/// are looked at.
+fn credits_and_parameters(
+    credits: usize,
+    parameters: usize,
+    [other, last, of]: [&str; 3],
+) -> Vec<Field> {
+    let mut parts = vec![asset(other); parameters];
+    parts.push(asset(last));
     parts.extend(nested(credits, 30, |inner, _| funds("m", inner, of)));
     vec![entry("f", parts), pays_debit("m")]
 }
 
 /// The same with calls and parameters that are as short as can be: the last
 /// call alone credits an amount.
-pub fn short_credits_and_parameters(credits: usize, parameters: usize) -> Vec<Field> {
+fn short_credits_and_parameters(credits: usize, parameters: usize) -> Vec<Field> {
     let mut parts = vec![short_parameter(); parameters];
     parts.push(asset("a"));
     let empty = |inner, _| call(member(caller(), "set"), vec![inner, now()]);
@@ -130,7 +139,7 @@ pub fn short_credits_and_parameters(credits: usize, parameters: usize) -> Vec<Fi
 
 /// More calls that fund a map than find room in a table, and entries that each
 /// ask for a map's token.
-pub fn many_fundings(calls: usize, entries: usize) -> Vec<Field> {
+fn many_fundings(calls: usize, entries: usize) -> Vec<Field> {
     let parts = [vec![asset("a")], fundings(calls, &["n"])].concat();
     [vec![entry("f", parts)], vec![pays_debit("m"); entries]].concat()
 }
@@ -138,22 +147,26 @@ pub fn many_fundings(calls: usize, entries: usize) -> Vec<Field> {
 /// A state field that is raised by turns by the amounts of debits of two maps,
 /// and an entry that pays out of it. For each raise the map's token is looked
 /// for.
-fn raised_by_turns(raises: usize, maps: [&str; 2], token: &str) -> Vec<Field> {
-    let amount = |i: usize| if i % 2 == 0 { now() } else { caller() };
+fn raised_by_turns(raises: usize, maps: [&str; 2]) -> Vec<Field> {
+    let amounts = [now(), caller()];
+    let raise = |i: usize| assign(tag::ADD, identifier("r"), amounts[i % 2].clone());
     let mut parts = vec![
-        statement(debit(maps[0], amount(0))),
-        statement(debit(maps[1], amount(1))),
+        statement(debit(maps[0], now())),
+        statement(debit(maps[1], caller())),
     ];
-    parts.extend((0..raises).map(|i| assign(tag::ADD, identifier("r"), amount(i))));
-    vec![short_state("r"), entry("g", parts), pays_from("r", token)]
+    parts.extend((0..raises).map(raise));
+    vec![short_state("r"), entry("g", parts), pays_from("r", "T")]
 }
 
-/// The same with so many funding calls.
-pub fn raises_and_many_fundings(raises: usize, calls: usize) -> Vec<Field> {
-    let mut parts = vec![asset("a"), limits(inflow_of(identifier("T")))];
+/// The same with so many funding calls, in an entry whose condition is as deep
+/// as can be.
+fn raises_and_many_fundings(raises: usize, calls: usize) -> Vec<Field> {
+    let and = |inner, _| binary(AND, inner, now());
+    let condition = (0..30).fold(inflow_of(identifier("T")), and);
+    let mut parts = vec![asset("a"), limits(condition)];
     parts.extend(fundings(calls, &["o"]));
     parts.extend(fundings(2, &["m", "n"]));
-    let raised = raised_by_turns(raises, ["m", "n"], "T");
+    let raised = raised_by_turns(raises, ["m", "n"]);
     [vec![entry("f", parts)], raised].concat()
 }
 
@@ -169,41 +182,38 @@ fn funding_entries(calls: usize, maps: &[&str], token: &Field) -> Vec<Field> {
 }
 
 /// Raises by the amounts of debits of two maps, each of which many calls fund.
-pub fn raises_and_fundings(raises: usize, calls: usize, token: Field) -> Vec<Field> {
+fn raises_and_fundings(raises: usize, calls: usize, token: Field) -> Vec<Field> {
     let funding = funding_entries(calls, &["m", "n"], &token);
-    [funding, raised_by_turns(raises, ["m", "n"], "T")].concat()
+    [funding, raised_by_turns(raises, ["m", "n"])].concat()
 }
 
-/// Payouts of debits of a map that many calls fund, in so many entries.
-pub fn debits_and_fundings(payouts: usize, calls: usize, token: Field) -> Vec<Field> {
+/// Payouts of debits of a map that many calls fund, 64 in an entry.
+fn debits_and_fundings(payouts: usize, calls: usize, token: Field) -> Vec<Field> {
     let funding = funding_entries(calls, &["m"], &token);
-    let paid = |inner, _| {
-        call(
-            identifier("send_asset"),
-            vec![inner, debit("m", now()), now()],
-        )
+    let paying = |first: usize| {
+        let count = (payouts - first).min(64);
+        entry("p", nested(count, 29, |inner, _| sends_debit(inner, "m")))
     };
-    let paying = |count: usize| entry("p", nested(count, 29, paid));
-    let full = vec![paying(64); payouts / 64];
-    [funding, full, vec![paying(payouts % 64)]].concat()
+    let paying = (0..payouts).step_by(64).map(paying);
+    funding.into_iter().chain(paying).collect()
 }
 
 /// Raises by the amounts of debits of two maps, each of which another entry
 /// funds: for each raise a token with a long name is compared with the last one.
-pub fn raises_and_tokens(raises: usize, length: usize) -> Vec<Field> {
+fn raises_and_tokens(raises: usize, length: usize) -> Vec<Field> {
     let token = || identifier(&"T".repeat(length));
     let funding = vec![credits("m", token()), credits("n", token())];
-    [funding, raised_by_turns(raises, ["m", "n"], "T")].concat()
+    [funding, raised_by_turns(raises, ["m", "n"])].concat()
 }
 
 /// Raises by the amounts of debits of two maps whose long names differ at the
 /// end.
-pub fn raises_and_long_maps(raises: usize, length: usize) -> Vec<Field> {
+fn raises_and_long_maps(raises: usize, length: usize) -> Vec<Field> {
     let long = "m".repeat(length);
     let (first, second) = (format!("{long}a"), format!("{long}b"));
     let maps = [first.as_str(), second.as_str()];
     let funding = funding_entries(0, &maps, &identifier("T"));
-    [funding, raised_by_turns(raises, maps, "T")].concat()
+    [funding, raised_by_turns(raises, maps)].concat()
 }
 
 /// Raises by the amounts of debits of the last two of many maps, each of which a
@@ -213,24 +223,15 @@ fn raises_and_maps_of(raises: usize, names: &[String]) -> Vec<Field> {
     let mut parts = vec![asset("a"), limits(inflow_of(identifier("T")))];
     parts.extend(fundings(names.len(), &names));
     let last = [names[names.len() - 2], names[names.len() - 1]];
-    [vec![entry("f", parts)], raised_by_turns(raises, last, "T")].concat()
+    [vec![entry("f", parts)], raised_by_turns(raises, last)].concat()
 }
 
-pub fn raises_and_maps(raises: usize, maps: usize) -> Vec<Field> {
+fn raises_and_maps(raises: usize, maps: usize) -> Vec<Field> {
     let names: Vec<String> = (0..maps).map(|i| numbered(i, 2)).collect();
     raises_and_maps_of(raises, &names)
 }
 
 /// The same with names that have one number.
-pub fn raises_and_maps_of_one_number(raises: usize, maps: usize) -> Vec<Field> {
+fn raises_and_maps_of_one_number(raises: usize, maps: usize) -> Vec<Field> {
     raises_and_maps_of(raises, &of_one_short_number(maps))
-}
-
-/// Credits of the last of many parameters whose names have one number.
-pub fn parameters_of_one_number(credits: usize, parameters: usize) -> Vec<Field> {
-    let names = of_one_short_number(parameters);
-    let mut parts: Vec<Field> = names.iter().map(|name| asset(name)).collect();
-    let last = &names[names.len() - 1];
-    parts.extend(nested(credits, 30, |inner, _| funds("m", inner, last)));
-    vec![entry("f", parts), pays_debit("m")]
 }

@@ -11,9 +11,13 @@ pub const SAMPLES: &[Sample] = &[
     sample("short names of few places", || largest(names_of_few_places)),
 ];
 
+/// The printable character of a number below 95.
+fn character(number: usize) -> char {
+    char::from(b' ' + number as u8)
+}
+
 /// All texts of so many characters, in order.
 fn texts(length: u32) -> impl Iterator<Item = String> {
-    let character = |number: usize| char::from(b' ' + number as u8);
     (0..95usize.pow(length)).map(move |number| {
         let digits = (0..length).rev().map(|power| number / 95usize.pow(power));
         digits.map(|digit| character(digit % 95)).collect()
@@ -37,16 +41,11 @@ fn name_number(name: &str) -> usize {
 /// names have one number. The last two characters are worked out from the rest.
 fn names_of_one_number(count: usize) -> Vec<Field> {
     let ended = |front: String| {
-        let missing = (3_097_152 - name_number(&format!("{front}  "))) % 2_097_152;
-        let character = |number: usize| char::from(b' ' + number as u8);
-        let fits = missing / 137 < 95 && missing % 137 < 95;
-        fits.then(|| {
-            format!(
-                "{front}{}{}",
-                character(missing / 137),
-                character(missing % 137)
-            )
-        })
+        let without = name_number(&format!("{front}  "));
+        let missing = (2_097_152 + 1_000_000 - without) % 2_097_152;
+        let (high, low) = (missing / 137, missing % 137);
+        let fits = high < 95 && low < 95;
+        fits.then(|| format!("{front}{}{}", character(high), character(low)))
     };
     named(texts(3).filter_map(ended).take(count))
 }
@@ -58,28 +57,28 @@ fn names_of_few_places(count: usize) -> Vec<Field> {
     named(texts(3).filter(shared).take(count))
 }
 
-/// The number that is compared before a name is: the upper half of this.
+/// The base of the number below.
+const BASE: u32 = 1_640_531_527;
+
+/// The upper half of this number is compared before a name is.
 fn text_number(text: &str) -> u32 {
     let number = |number: u32, byte| number.wrapping_add(u32::from(byte)).wrapping_mul(BASE);
     text.bytes().fold(0, number)
 }
 
-const BASE: u32 = 1_640_531_527;
-
-/// At most 1,200 texts of four characters for which it is the same. The number
-/// of the last two characters is looked for that makes it so.
+/// At most 1,200 texts of four characters for which that half is the same. The
+/// last two characters are looked for by their number.
 pub fn of_one_short_number(count: usize) -> Vec<String> {
-    let mut ends: Vec<(u32, String)> = texts(2).map(|text| (text_number(&text), text)).collect();
+    let numbered = |text: String| (text_number(&text), text);
+    let mut ends: Vec<(u32, String)> = texts(2).map(numbered).collect();
     ends.sort();
     let ended = |front: String| {
         let shifted = text_number(&front).wrapping_mul(BASE).wrapping_mul(BASE);
         let least = 0x8000_0000_u32.wrapping_sub(shifted);
         let first = ends.partition_point(|(number, _)| *number < least);
-        let fit = ends[first..]
-            .iter()
-            .take_while(|(number, _)| number - least < 0x1_0000);
-        fit.map(|(_, end)| format!("{front}{end}"))
-            .collect::<Vec<_>>()
+        let fits = move |end: &&(u32, String)| end.0 - least < 0x1_0000;
+        let fit = ends[first..].iter().take_while(fits);
+        fit.map(move |(_, end)| format!("{front}{end}"))
     };
     texts(2).flat_map(ended).take(count).collect()
 }

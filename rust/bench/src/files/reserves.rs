@@ -1,9 +1,10 @@
 // SPDX-License-Identifier: Apache-2.0 OR MIT
 //! Files in which the token of a state field is looked for again and again.
 
+use super::names::of_one_short_number;
 use super::{
-    admits, credits, held, largest, lowered, nested, numbered, of_inflow, pays, pays_from, sample,
-    short_parameter, short_state, Sample,
+    admits, credits, held, inflow_of, largest, lowered, nested, numbered, of_inflow, pays,
+    pays_from, sample, short_parameter, short_state, Sample,
 };
 use generator::construct::*;
 use model_file::{tag, Field};
@@ -16,17 +17,20 @@ pub const SAMPLES: &[Sample] = &[
     sample("more payouts, guards and raises", || {
         guards_and_raises(40, 300, 400)
     }),
+    sample("a reserve of deep expressions", || deep_reserve(29)),
     sample("entries, raises and debits", || largest(entries_and_raises)),
     sample("reserves", || largest(reserves)),
     sample("raises and parameters", || {
-        largest(|n| raises_and_parameters(5 * n, 7 * n))
+        largest(|n| raises_and_parameters(5 * n, 7 * n, ["b", "a"]))
+    }),
+    sample("raises, parameters of one number", || {
+        let names = of_one_short_number(2);
+        largest(|n| raises_and_parameters(n, n, [&names[0], &names[1]]))
     }),
     sample("debited raises and parameters", || {
         largest(|n| debited_raises_and_parameters(5 * n, 8 * n))
     }),
-    sample("raises and calls", || {
-        largest(|n| raises_and_calls(2 * n, 5 * n))
-    }),
+    sample("raises and calls", || largest(|n| raises_and_calls(n, n))),
     sample("raises and calls of their amount", || {
         largest(|n| raises_and_debits(n, n, now(), now()))
     }),
@@ -134,16 +138,45 @@ fn reserves(count: usize) -> Vec<Field> {
     fields
 }
 
-/// Raises by what comes in with the last of many parameters.
-pub fn raises_and_parameters(raises: usize, parameters: usize) -> Vec<Field> {
-    let mut parts = vec![asset("b"); parameters];
-    parts.extend([asset("a"), admits("T")]);
-    parts.extend(vec![raise("r", amount_of("a")); raises]);
+/// A payout out of a state field, all of whose amounts and conditions are so
+/// deep.
+fn deep_reserve(depth: usize) -> Vec<Field> {
+    let deep = |last| (0..depth).fold(last, |inner, _| negate(inner));
+    let and = |inner, _| binary(AND, inner, now());
+    let credit = member_call("m", "credit", vec![caller(), amount_of("a")]);
+    let crediting = vec![
+        asset("a"),
+        limits((0..depth).fold(inflow_of(identifier("T")), and)),
+        statement(credit),
+        statement(deep(now())),
+    ];
+    let raising = vec![statement(debit("m", deep(now()))), raise("r", deep(now()))];
+    let amount = || deep(amount_of("a"));
+    let paying = vec![
+        asset("a"),
+        guard(binary(AT_LEAST, identifier("r"), amount())),
+        assign(tag::SUBTRACT, identifier("r"), amount()),
+        pays("T", amount()),
+    ];
+    vec![
+        short_state("r"),
+        entry("c", crediting),
+        entry("g", raising),
+        entry("p", paying),
+    ]
+}
+
+/// Raises by what comes in with the last of many parameters; the others have
+/// another name.
+fn raises_and_parameters(raises: usize, parameters: usize, [other, last]: [&str; 2]) -> Vec<Field> {
+    let mut parts = vec![asset(other); parameters];
+    parts.extend([asset(last), admits("T")]);
+    parts.extend(vec![raise("r", amount_of(last)); raises]);
     vec![short_state("r"), entry("g", parts), pays_from("r", "T")]
 }
 
 /// Raises by an amount that could be a parameter's, but is a debit's.
-pub fn debited_raises_and_parameters(raises: usize, parameters: usize) -> Vec<Field> {
+fn debited_raises_and_parameters(raises: usize, parameters: usize) -> Vec<Field> {
     let mut parts = vec![short_parameter(); parameters];
     parts.push(statement(debit("m", amount_of("a"))));
     parts.extend(vec![raise("r", amount_of("a")); raises]);
@@ -159,11 +192,12 @@ fn raise(field: &str, amount: Field) -> Field {
     assign(tag::ADD, identifier(field), amount)
 }
 
-/// Raises by what comes in, which no call may credit too, and many calls.
-pub fn raises_and_calls(raises: usize, calls: usize) -> Vec<Field> {
+/// Raises by what comes in, which no call may credit too, and many calls that
+/// have the amount and credit nothing.
+fn raises_and_calls(raises: usize, calls: usize) -> Vec<Field> {
     let mut parts = vec![asset("a"), admits("T")];
     parts.extend(nested(calls, 30, |inner, _| {
-        call(now(), vec![inner, now()])
+        call(now(), vec![inner, amount_of("a")])
     }));
     parts.extend(vec![raise("r", amount_of("a")); raises]);
     vec![short_state("r"), entry("g", parts), pays_from("r", "T")]
@@ -171,7 +205,7 @@ pub fn raises_and_calls(raises: usize, calls: usize) -> Vec<Field> {
 
 /// Raises by the amount of a debit behind many calls of another amount, or of
 /// the same one in what is no debit.
-pub fn raises_and_debits(raises: usize, calls: usize, amount: Field, other: Field) -> Vec<Field> {
+fn raises_and_debits(raises: usize, calls: usize, amount: Field, other: Field) -> Vec<Field> {
     let mut parts = nested(calls, 28, |inner, _| {
         call(now(), vec![inner, other.clone()])
     });
@@ -189,7 +223,7 @@ pub fn raises_and_debits(raises: usize, calls: usize, amount: Field, other: Fiel
 /// whose token is no identifier, and all raised: each one's token is looked for,
 /// and none is the payout's. Further parts stand in front of the file and of the
 /// raising entry.
-pub fn raised(count: usize, front: Vec<Field>, parts: Vec<Field>) -> Vec<Field> {
+fn raised(count: usize, front: Vec<Field>, parts: Vec<Field>) -> Vec<Field> {
     let names: Vec<String> = (0..count).map(|i| numbered(i, 2)).collect();
     let mut raising = parts;
     raising.push(statement(debit("m", now())));
