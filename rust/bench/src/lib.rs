@@ -199,7 +199,7 @@ fn one(measures: &[Measure], sample: &str, measure: &str) {
 
 fn write(folder: &Path) {
     for sample in files::samples() {
-        let path = folder.join(sample.name.replace(' ', "-"));
+        let path = folder.join(sample.name.replace(", ", "-").replace(' ', "-"));
         std::fs::write(&path, sample.file())
             .unwrap_or_else(|why| panic!("{} cannot be written: {why}", path.display()));
     }
