@@ -29,7 +29,7 @@ use Rattle.equality.specs.Equality.{expr_eq}
 use Rattle.equality.proofs.Equality.{nothing_left}
 use Rattle.raises.specs.Raises.{assigns, value, sets_from}
 use Rattle.guards.specs.Guards.{contains_wrapping, lowered_by, lowers}
-use Rattle.guards.specs.Lowerings.{target, is_lowering, lowering_at, lowering_numbers, lowered_in}
+use Rattle.guards.specs.Lowerings.{target, is_lowering, lowering_at, lowering_numbers, lowers_at, lowered_in}
 
 -- What lowers r by the amount is a lowering of the amount whose target is r
 
@@ -164,7 +164,7 @@ module _ (amount : Field) (file : List ℕ) (place : ℕ) where
 module _ (amount : Field) (file r : List ℕ) where
   one-read : (n : ℕ) (f : Field) → front (drop n file) ≡ f → n < 65536 → (ks : List ℕ) →
       lowered_in file r (lowering_at amount (record { place = n; this = f }) ++ ks) ≡ lowers amount r f || lowered_in file r ks
-  unfolding lowering_at lowered_in
+  unfolding lowering_at lowered_in lowers_at
   one-read n f e l ks = go (is_lowering amount f) refl
     where
       go : (k : Bool) → is_lowering amount f ≡ k →

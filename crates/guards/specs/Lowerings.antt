@@ -26,8 +26,12 @@ lowering_at amount p = cond (is_lowering amount p.this) (short_number (target p.
 unfoldable pub lowering_numbers : Field → Placed → List ℕ
 lowering_numbers amount entry = flat_map (lowering_at amount) (placed_parts entry)
 
--- one of the assignments of a table has the target r: names whose numbers differ need not be compared
+-- the numbers are those of an assignment to r: names whose numbers differ need not be compared
+unfoldable pub lowers_at : (file r : List ℕ) → (number place : ℕ) → Bool
+lowers_at file r number place = eqb number (short_number r) && same_bytes (target (front (drop place file))) r
+
+-- one of the assignments of a table has the target r
 unfoldable pub lowered_in : (file r : List ℕ) → List ℕ → Bool
 lowered_in file r [] = false
 lowered_in file r (number ∷ []) = false
-lowered_in file r (number ∷ n ∷ ks) = eqb number (short_number r) && same_bytes (target (front (drop n file))) r || lowered_in file r ks
+lowered_in file r (number ∷ place ∷ ks) = lowers_at file r number place || lowered_in file r ks

@@ -1,20 +1,19 @@
 // SPDX-License-Identifier: Apache-2.0 OR MIT
 // The assignments that lower a state field by an amount: those of an entry are listed once for a payout, and each guard that bounds
 // the amount is then compared with them by the name of its state field.
-ghost use Rattle.std.specs.Prelude.{◌≡◌, true, ◌&&◌, eqb, ◌≤◌, ◌+◌, ◌^◌, ◌<◌, length, get_or, drop};
-ghost use Rattle.laws.specs.Texts.{same_bytes};
+ghost use Rattle.std.specs.Prelude.{◌≡◌, true, ◌≤◌, ◌+◌, ◌^◌, ◌<◌, length, get_or};
 ghost use Rattle.fields.specs.Field.{front};
 ghost use Rattle.fields.specs.Number.{short_number};
 ghost use Rattle.fields.specs.Table.{Listed};
 ghost use Rattle.walking.specs.Table.{placed_at};
 ghost use Rattle.guards.specs.Guards.{contains_wrapping, lowered_by};
-ghost use Rattle.guards.specs.Lowerings.{target, is_lowering, lowering_at, lowering_numbers, lowered_in};
+ghost use Rattle.guards.specs.Lowerings.{target, is_lowering, lowering_at, lowering_numbers, lowers_at, lowered_in};
 
 use equality::expr_eq;
 use fields::bytes::{same_bytes, skip};
 use fields::front::{after_front, is_whole, length_of, part_of, parts_of, tag_of};
 use fields::number::short_number;
-use fields::table::{note, number_at};
+use fields::table::{note, wide};
 use raises::assignment::{sets_from, value_of};
 use tags::{SUB, SUBTRACT_FROM, WRAPPING, is_assign};
 use walking::peel::peel;
@@ -100,27 +99,26 @@ pub fn list_lowerings(file: &[u8], place: usize, amount: &[u8], table: &mut [u16
     n
 }
 
-// Whether the assignment whose two numbers stand at i of a table assigns to the name, which has that number.
-fn has_target(file: &[u8], lowerings: &[u16], i: usize, name: &[u8], number: usize) -> bool
-    requires number { number ≡ short_number name.now }
+// Whether the assignment whose two numbers stand at i of a table assigns to the name, where its number is the name's.
+fn has_target(file: &[u8], lowerings: &[u16], i: usize, name: &[u8]) -> bool
+    requires number { get_or lowerings.now i 0 ≡ short_number name.now }
     requires inside { i + 1 < length lowerings.now }
-    ensures { result ≡ eqb (get_or lowerings.now i 0) (short_number name.now) && same_bytes (target (front (drop (get_or lowerings.now (i + 1) 0) file.now))) name.now }
+    ensures { result ≡ lowers_at file.now name.now (get_or lowerings.now i 0) (get_or lowerings.now (i + 1) 0) }
 {
-    if number_at(lowerings, i) != number {
-        return false;
-    }
-    same_bytes(target(skip(file, number_at(lowerings, i + 1))), name)
+    same_bytes(target(skip(file, wide(lowerings[i + 1]))), name)
 }
 
-// Whether one of the lowerings of a table lowers the state field of that name.
+// Whether one of the lowerings of a table lowers the state field of that name. A name is read only where the number is equal.
 pub fn is_lowered(file: &[u8], lowerings: &[u16], name: &[u8]) -> bool
     ensures { result ≡ lowered_in file.now name.now lowerings.now }
 {
     let number = short_number(name);
     let mut i = 0;
     while 1 < lowerings.len() - i {
-        if has_target(file, lowerings, i, name, number) {
-            return true;
+        if wide(lowerings[i]) == number {
+            if has_target(file, lowerings, i, name) {
+                return true;
+            }
         }
         i += 2;
     }

@@ -6,7 +6,7 @@ use mathlib.Core.List.{flat_map}
 use Rattle.laws.specs.Lists.{any, filter}
 use Rattle.laws.specs.Texts.{same_bytes}
 use Rattle.laws.proofs.Lists.{Every, every-filter, no-elements}
-use Rattle.laws.proofs.Slices.{drop-step}
+use Rattle.laws.proofs.Slices.{next-two}
 use Rattle.laws.proofs.Texts.{bytes-symmetric}
 use Rattle.tags.specs.Tag.{Parameter, between}
 use Rattle.fields.specs.Number.{short_number}
@@ -99,14 +99,18 @@ among s name (k ∷ []) = false
 among s name (k ∷ place ∷ ks) = named_by s name k place || among s name ks
 
 -- what the code tests: the names are compared where the numbers are equal
-module _ (s name : List ℕ) (own number place : ℕ) (e : own ≡ short_number name) where
-  pub not-named : (number ≡ own → ⊥) → false ≡ named_by s name number place
-  unfolding named_by
-  not-named = other-number name own number e (same_bytes name (name_of (front (drop place s))))
+module _ (s name l : List ℕ) (i : ℕ) where
+  abbrev named_at : Bool
+  named_at = named_by s name (get_or l i 0) (get_or l (i + 1) 0)
 
-  pub by-name : number ≡ own → (x : List ℕ) → x ≡ drop place s → (y : List ℕ) → y ≡ name_of (front x) → (b : Bool) → b ≡ same_bytes name y → b ≡ named_by s name number place
+  not-named : (own : ℕ) → own ≡ short_number name → (number : ℕ) → number ≡ get_or l i 0 → (number ≡ own → ⊥) → named_at ≡ false
   unfolding named_by
-  by-name h x f y g b k = equal-number name own number e b h ∙ rw (k, g, f)
+  not-named own e number f n = rw (← f) (sym (other-number name own number e (same_bytes name (name_of (front (drop (get_or l (i + 1) 0) s)))) n))
+
+  pub by-name : get_or l i 0 ≡ short_number name → (place : ℕ) → place ≡ get_or l (i + 1) 0 → (x : List ℕ) → x ≡ drop place s → (y : List ℕ) → y ≡ name_of (front x) →
+      (b : Bool) → b ≡ same_bytes name y → b ≡ named_at
+  unfolding named_by
+  by-name e place f x g y h b k = k ∙ equal-number name (short_number name) (get_or l i 0) refl (same_bytes name y) e ∙ rw (h, g, f)
 
 -- a parameter that stands in s has a name exactly where its numbers do
 numbered : (s name : List ℕ) (p : Placed) → Stands s p → named_by s name (short_number (name_of p.this)) p.place ≡ same_bytes name (name_of p.this)
@@ -156,15 +160,16 @@ module _ (s name l : List ℕ) (i : ℕ) (v : Among s name l i) where
   pub among-none : length l - i ≤ 1 → false ≡ any (same_bytes name) (asset_params (front s))
   among-none h = sym (among-short (drop i l) (rw (length-drop i l) h)) ∙ v.left
 
-  module _ (h : 1 < length l - i) (a b : ℕ) (e : a ≡ get_or l i 0) (f : b ≡ get_or l (i + 1) 0) (u : Bool) (q : u ≡ named_by s name a b) where
-    ahead : u || among s name (drop (i + 2) l) ≡ any (same_bytes name) (asset_params (front s))
+  module _ (h : 1 < length l - i) where
+    ahead : named_at s name l i || among s name (drop (i + 2) l) ≡ any (same_bytes name) (asset_params (front s))
     unfolding among
-    ahead =
-        let p : i + 1 + 1 ≡ i + 2 = omega arith in
-        rw q (rw (drop-step l i (omega arith), drop-step l (i + 1) (omega arith), p, ← e, ← f) at v.left)
+    ahead = rw (next-two l i h) at v.left
 
-    pub among-found : u ≡ true → true ≡ any (same_bytes name) (asset_params (front s))
-    among-found o = rw o at ahead
+    pub among-found : (u : Bool) → u ≡ named_at s name l i → u ≡ true → true ≡ any (same_bytes name) (asset_params (front s))
+    among-found u q o = rw (← q, o) at ahead
 
-    pub among-on : u ≡ false → Among s name l (i + 2)
-    among-on o = record { within = omega arith; left = rw o at ahead }
+    pub among-on : (u : Bool) → u ≡ named_at s name l i → u ≡ false → Among s name l (i + 2)
+    among-on u q o = record { within = omega arith; left = rw (← q, o) at ahead }
+
+    pub among-other : (own : ℕ) → own ≡ short_number name → (number : ℕ) → number ≡ get_or l i 0 → (number ≡ own → ⊥) → Among s name l (i + 2)
+    among-other own e number f n = record { within = omega arith; left = rw (not-named s name l i own e number f n) at ahead }

@@ -1,6 +1,6 @@
 // SPDX-License-Identifier: Apache-2.0 OR MIT
 // The asset parameters of an entry: those whose type name is Q_Asset. A name is a part of the file.
-ghost use Rattle.std.specs.Prelude.{◌≡◌, ◌≤◌, ◌+◌, ◌<◌, ◌^◌, length};
+ghost use Rattle.std.specs.Prelude.{◌≡◌, ◌≤◌, ◌+◌, ◌<◌, ◌^◌, length, get_or};
 ghost use Rattle.laws.specs.Lists.{any};
 ghost use Rattle.laws.specs.Texts.{same_bytes};
 ghost use Rattle.fields.specs.Field.{fields, front};
@@ -12,7 +12,7 @@ ghost use Rattle.walking.specs.Assets.{assets_in, assets_from, parameter_numbers
 use fields::bytes::{same_bytes, skip};
 use fields::front::{after_front, first_from, is_whole, part_of, parts_of, text_of};
 use fields::number::short_number;
-use fields::table::{note, number_at};
+use fields::table::{note, wide};
 use model::name_of;
 use tags::PARAMETER;
 
@@ -101,19 +101,17 @@ pub fn list_assets(s: &[u8], table: &mut [u16]) -> usize
     n
 }
 
-// Whether two listed numbers are those of a parameter of that name, which has the number `own`. A name is read only where the numbers
-// are equal.
-fn is_named(s: &[u8], name: &[u8], own: usize, number: usize, place: usize) -> bool
-    requires { own ≡ short_number name.now }
-    ensures { result ≡ named_by s.now name.now number place }
+// Whether the parameter whose two numbers stand at i of a table has that name, where its number is the name's.
+fn is_named(s: &[u8], assets: &[u16], i: usize, name: &[u8]) -> bool
+    requires number { get_or assets.now i 0 ≡ short_number name.now }
+    requires inside { i + 1 < length assets.now }
+    ensures { result ≡ named_by s.now name.now (get_or assets.now i 0) (get_or assets.now (i + 1) 0) }
 {
-    if number != own {
-        return false;
-    }
-    same_bytes(name, name_of(skip(s, place)))
+    same_bytes(name, name_of(skip(s, wide(assets[i + 1]))))
 }
 
-// Whether one of the asset parameters of the entry at the front of s has that name, where these numbers are listed of them.
+// Whether one of the asset parameters of the entry at the front of s has that name, where these numbers are listed of them. A name is
+// read only where the number is equal.
 fn is_among(s: &[u8], assets: &[u16], name: &[u8]) -> bool
     requires { assets.now ≡ asset_numbers (front s.now) }
     ensures { result ≡ any (same_bytes name.now) (asset_params (front s.now)) }
@@ -121,8 +119,10 @@ fn is_among(s: &[u8], assets: &[u16], name: &[u8]) -> bool
     let own = short_number(name);
     let mut i = 0;
     while 1 < assets.len() - i {
-        if is_named(s, name, own, number_at(assets, i), number_at(assets, i + 1)) {
-            return true;
+        if wide(assets[i]) == own {
+            if is_named(s, assets, i, name) {
+                return true;
+            }
         }
         i += 2;
     }
