@@ -19,23 +19,23 @@ use Rattle.questions.specs.declared.check.Answer.TheVariants as answer
 use Rattle.questions.proofs.Noting.{noted-none}
 
 -- t stands at a place of the file, behind whole fields, and the table is the one that was lent, with their names
-pub record Naming (file lent table t : List ℕ) (at : ℕ) : Type 0 where
+pub record Naming (file lent table t : List ℕ) (base at : ℕ) : Type 0 where
   pub within : at ≤ length file
   pub here : t ≡ drop at file
   pub ends : end_of (fields (take at file)) ≡ []
   pub left : ask_names (state_names (fields (take at file))) (placed_from State State at (fields t)) ≡ ask_names [] (states (fields file))
   pub wide : length table ≡ length lent
-  pub noted : Noted (state_names (fields (take at file))) table
+  pub noted : Noted base (state_names (fields (take at file))) table
 
-pub naming-all : (file lent : List ℕ) → Naming file lent lent file 0
+pub naming-all : (file lent : List ℕ) (base : ℕ) → Naming file lent lent file base 0
 unfolding states state_names fields_from filter end_of row
-naming-all file lent = record {
+naming-all file lent base = record {
   within = omega arith;
   here = refl;
   ends = rw (fields-end [] refl);
   left = rw (fields-end [] refl);
   wide = refl;
-  noted = rw (fields-end [] refl) (noted-none lent);
+  noted = rw (fields-end [] refl) (noted-none base lent);
 }
 
 -- one field: a state field is asked about and joins the earlier ones, any other is passed over
@@ -84,12 +84,12 @@ module _ (file : List ℕ) (at : ℕ) (e : end_of (fields (take at file)) ≡ []
       go earlier ps true = refl
       go earlier ps false = rw append-nil
 
-module _ (file lent table t : List ℕ) (at : ℕ) (i : Naming file lent table t at) where
+module _ (file lent table t : List ℕ) (base at : ℕ) (i : Naming file lent table t base at) where
   pub naming-done : whole t ≡ false → asked answer.Passes ≡ ask_names [] (states (fields file))
   unfolding ask_names placed_from placed filter
   naming-done w = rw (fields-end t w) at i.left
 
-  pub naming-shown : (before : List ℕ) → before ≡ take at file → Noted (state_names (fields before)) table
+  pub naming-shown : (before : List ℕ) → before ≡ take at file → Noted base (state_names (fields before)) table
   naming-shown before k = rw k i.noted
 
   module _ (v : Bool) (o : v ≡ whole t) (w : v ≡ true) where
@@ -113,7 +113,8 @@ module _ (file lent table t : List ℕ) (at : ℕ) (i : Naming file lent table t
       naming-no h = rw h at step
 
       pub naming-on : b ≡ false → (n : ℕ) → n ≡ length_of t → (u : List ℕ) → u ≡ after t →
-          (last : List ℕ) → length last ≡ length table → Noted (names_with (state_names (fields before)) t) last → Naming file lent last u (at + (3 + n))
+          (last : List ℕ) → length last ≡ length table → Noted base (names_with (state_names (fields before)) t) last →
+          Naming file lent last u base (at + (3 + n))
       naming-on h n e u f last z m = let l = fits in record {
         within = rw e (omega arith);
         here = rw (f, e, i.here, drop-drop);

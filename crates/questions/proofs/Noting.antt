@@ -10,8 +10,9 @@ use Rattle.laws.specs.Texts.{same_bytes}
 use Rattle.laws.proofs.Lists.{any_append}
 use Rattle.laws.proofs.Texts.{bytes-equal}
 use Rattle.fields.specs.Field.{tag_of, front}
+use Rattle.fields.specs.Number.{text_number}
 use Rattle.model.specs.Model.{name_of}
-use Rattle.questions.specs.Noted.{name_number, note_of, joined_note, held_at, shows, with_number, Noted, names_with}
+use Rattle.questions.specs.Noted.{table_place, note_of, joined_note, held_at, shows, with_number, Noted, names_with}
 
 -- whether a place that holds this shows the note
 abbrev shows_note : ℕ → ℕ → Bool
@@ -44,7 +45,7 @@ joined_keeps held note n e = go (eqb held 0) (eqb held note) refl refl
 
 -- a table without room holds that several share every place, and keeps it
 module _ (t : List ℕ) (n : ℕ) where
-  no_room : length t ≤ n % length t → held_at t n ≡ 255
+  no_room : length t ≤ table_place t n → held_at t n ≡ 255
   unfolding held_at
   no_room h = get_or-eq_default t 255 h
 
@@ -54,79 +55,80 @@ module _ (t : List ℕ) (n : ℕ) where
 
   pub no-room-kept : length t ≡ 0 → t ≡ with_number t n
   unfolding with_number
-  no-room-kept z = sym (set_out t (n % length t) (joined_note (held_at t n) (note_of n)) (omega arith))
+  no-room-kept z = sym (set_out t (table_place t n) (joined_note (held_at t n) (note_of n)) (omega arith))
 
   module _ (d : length t ≡ 0 → ⊥) where
-    pub has-place : n % length t < length t
-    has-place = mod-lt n (omega arith)
+    pub has-place : table_place t n < length t
+    has-place = mod-lt (n / 262144) (omega arith)
 
-    held : get_or t (n % length t) 0 ≡ held_at t n
+    held : get_or t (table_place t n) 0 ≡ held_at t n
     unfolding held_at
-    held = let h = has-place in cc (drop-cons t (n % length t) 0 h, drop-cons t (n % length t) 255 h)
+    held = let h = has-place in cc (drop-cons t (table_place t n) 0 h, drop-cons t (table_place t n) 255 h)
 
-    pub place-shows : eqb (get_or t (n % length t) 0) (note_of n) || eqb (get_or t (n % length t) 0) 255 ≡ shows t n
+    pub place-shows : eqb (get_or t (table_place t n) 0) (note_of n) || eqb (get_or t (table_place t n) 0) 255 ≡ shows t n
     unfolding shows
     place-shows = rw held
 
-    pub place-noted : (r : ℕ) → r ≡ joined_note (get_or t (n % length t) 0) (note_of n) → set t (n % length t) r ≡ with_number t n
+    pub place-noted : (r : ℕ) → r ≡ joined_note (get_or t (table_place t n) 0) (note_of n) → set t (table_place t n) r ≡ with_number t n
     unfolding with_number
     place-noted r e = rw (e, held)
 
 -- one more number: at its place the notes are joined, and every other place is as it was
 module _ (t : List ℕ) (m n : ℕ) where
-  same_place : n % length t ≡ m % length t → held_at (with_number t m) n ≡ joined_note (held_at t n) (note_of m)
+  same_place : table_place t n ≡ table_place t m → held_at (with_number t m) n ≡ joined_note (held_at t n) (note_of m)
   unfolding held_at with_number
-  same_place e = rw (length-set, e) (go (ltb (m % length t) (length t)) refl)
+  same_place e = rw (length-set, e) (go (ltb (table_place t m) (length t)) refl)
     where
-      go : (k : Bool) → ltb (m % length t) (length t) ≡ k →
-          get_or (set t (m % length t) (joined_note (held_at t m) (note_of m))) (m % length t) 255 ≡ joined_note (held_at t m) (note_of m)
-      go true h = get_or-set_same t (m % length t) (joined_note (held_at t m) (note_of m)) 255 (ltb-true (m % length t) (length t) h)
+      go : (k : Bool) → ltb (table_place t m) (length t) ≡ k →
+          get_or (set t (table_place t m) (joined_note (held_at t m) (note_of m))) (table_place t m) 255 ≡ joined_note (held_at t m) (note_of m)
+      go true h = get_or-set_same t (table_place t m) (joined_note (held_at t m) (note_of m)) 255 (ltb-true (table_place t m) (length t) h)
       go false h =
-          let g = ltb-false (m % length t) (length t) h in
-          rw (set_out t (m % length t) (joined_note (held_at t m) (note_of m)) g, get_or-eq_default t 255 g) (sym (several-stays m))
+          let g = ltb-false (table_place t m) (length t) h in
+          rw (set_out t (table_place t m) (joined_note (held_at t m) (note_of m)) g, get_or-eq_default t 255 g) (sym (several-stays m))
 
-  other_place : (n % length t ≡ m % length t → ⊥) → held_at (with_number t m) n ≡ held_at t n
+  other_place : (table_place t n ≡ table_place t m → ⊥) → held_at (with_number t m) n ≡ held_at t n
   unfolding held_at with_number
-  other_place d = rw length-set (get_or-set_other t (m % length t) (n % length t) (joined_note (held_at t m) (note_of m)) 255 d)
+  other_place d = rw length-set (get_or-set_other t (table_place t m) (table_place t n) (joined_note (held_at t m) (note_of m)) 255 d)
 
   shows_kept : shows t n ≡ true → shows (with_number t m) n ≡ true
   unfolding shows
-  shows_kept e = go (eqb (n % length t) (m % length t)) refl
+  shows_kept e = go (eqb (table_place t n) (table_place t m)) refl
     where
-      go : (k : Bool) → eqb (n % length t) (m % length t) ≡ k → shows (with_number t m) n ≡ true
-      go true h = rw (same_place (eqb-true (n % length t) (m % length t) h)) (joined_keeps (held_at t n) (note_of m) (n / 16384 % 128) e)
-      go false h = rw (other_place (eqb-false (n % length t) (m % length t) h)) e
+      go : (k : Bool) → eqb (table_place t n) (table_place t m) ≡ k → shows (with_number t m) n ≡ true
+      go true h = rw (same_place (eqb-true (table_place t n) (table_place t m) h)) (joined_keeps (held_at t n) (note_of m) (n / 2048 % 128) e)
+      go false h = rw (other_place (eqb-false (table_place t n) (table_place t m) h)) e
 
 shows-noted : (t : List ℕ) (n : ℕ) → shows (with_number t n) n ≡ true
 unfolding shows
 shows-noted t n = rw (same_place t n n refl) (joined-shows (held_at t n) (note_of n))
 
--- names, by their numbers
-pub noted-none : (t : List ℕ) → Noted [] t
+-- names, by their numbers in a base
+pub noted-none : (base : ℕ) (t : List ℕ) → Noted base [] t
 unfolding any
-noted-none t = record { shown = λ name e. cc }
+noted-none base t = record { shown = λ name e. cc }
 
-module _ (names : List (List ℕ)) (t : List ℕ) (i : Noted names t) where
+module _ (base : ℕ) (names : List (List ℕ)) (t : List ℕ) (i : Noted base names t) where
   -- a name that is not shown is none of them
-  pub not-shown : (name : List ℕ) → shows t (name_number name) ≡ false → any (same_bytes name) names ≡ false
+  pub not-shown : (name : List ℕ) → shows t (text_number base name) ≡ false → any (same_bytes name) names ≡ false
   not-shown name e = go (any (same_bytes name) names) refl
     where
       go : (k : Bool) → any (same_bytes name) names ≡ k → any (same_bytes name) names ≡ false
       go true h = cc (i.shown name h)
       go false h = h
 
-  noted_more : (name : List ℕ) → Noted (names ++ name ∷ []) (with_number t (name_number name))
+  noted_more : (name : List ℕ) → Noted base (names ++ name ∷ []) (with_number t (text_number base name))
   unfolding any
   noted_more name = record { shown = λ x e. go x (any (same_bytes x) names) refl (rw (any_append (same_bytes x) names (name ∷ []), or-false) at e) }
     where
-      go : (x : List ℕ) (k : Bool) → any (same_bytes x) names ≡ k → k || same_bytes x name ≡ true → shows (with_number t (name_number name)) (name_number x) ≡ true
-      go x true h e = shows_kept t (name_number name) (name_number x) (i.shown x h)
-      go x false h e = rw (bytes-equal x name e) (shows-noted t (name_number name))
+      go : (x : List ℕ) (k : Bool) → any (same_bytes x) names ≡ k → k || same_bytes x name ≡ true →
+          shows (with_number t (text_number base name)) (text_number base x) ≡ true
+      go x true h e = shows_kept t (text_number base name) (text_number base x) (i.shown x h)
+      go x false h e = rw (bytes-equal x name e) (shows-noted t (text_number base name))
 
   module _ (s : List ℕ) (g : ℕ) (f : g ≡ tag_of s) where
-    pub noted_other : (g ≡ 1 → ⊥) → Noted (names_with names s) t
+    pub noted_other : (g ≡ 1 → ⊥) → Noted base (names_with names s) t
     noted_other n = rw (← f, ne_eqb g 1 n, append-nil) i
 
-    pub noted-state : g ≡ 1 → (name : List ℕ) → name ≡ name_of (front s) → (m : ℕ) → m ≡ name_number name → (u : List ℕ) → u ≡ with_number t m →
-        Noted (names_with names s) u
+    pub noted-state : g ≡ 1 → (name : List ℕ) → name ≡ name_of (front s) → (m : ℕ) → m ≡ text_number base name →
+        (u : List ℕ) → u ≡ with_number t m → Noted base (names_with names s) u
     noted-state h name e m k u q = rw (← f, eq-eqb g 1 h, ← e, q, k) (noted_more name)

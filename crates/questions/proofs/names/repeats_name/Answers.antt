@@ -4,8 +4,9 @@ use borrow.Author.Tests.{not-true}
 use Rattle.laws.specs.Lists.{any}
 use Rattle.laws.specs.Texts.{same_bytes}
 use Rattle.fields.specs.Field.{fields, front, tag_of}
+use Rattle.fields.specs.Number.{text_number}
 use Rattle.model.specs.Model.{name_of, state_names}
-use Rattle.questions.specs.Noted.{name_number, shows, Noted}
+use Rattle.questions.specs.Noted.{shows, Noted}
 use Rattle.questions.proofs.Noting.{not-shown, noted_other, noted-state}
 use Rattle.questions.proofs.Naming.{repeats}
 use Rattle.questions.proofs.names.repeats_name.Goals as goal
@@ -18,9 +19,9 @@ module _ (before s : List ℕ) (t : ℕ) (e : t ≡ tag_of s) where
     state : (r : Bool) → r ≡ any (same_bytes m) (state_names (fields before)) → r ≡ repeats before s
     state r q = q ∙ rw (f, ← e, eq-eqb t 1 h)
 
-    new : (table : List ℕ) → Noted (state_names (fields before)) table → (n : ℕ) → n ≡ name_number m → (b : Bool) → b ≡ shows table n → not b ≡ true →
-        false ≡ repeats before s
-    new table i n g b q z = state false (sym (not-shown (state_names (fields before)) table i m (rw g at (sym q ∙ not-true b z))))
+    new : (base : ℕ) (table : List ℕ) → Noted base (state_names (fields before)) table → (n : ℕ) → n ≡ text_number base m →
+        (b : Bool) → b ≡ shows table n → not b ≡ true → false ≡ repeats before s
+    new base table i n g b q z = state false (sym (not-shown base (state_names (fields before)) table i m (rw g at (sym q ∙ not-true b z))))
 
 pub returns-then-front_tag-ne-STATE : goal.returns-then-front_tag-ne-STATE
 returns-then-front_tag-ne-STATE c = search (other, noted_other)
