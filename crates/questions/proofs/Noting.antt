@@ -1,5 +1,5 @@
 -- A number that is noted is shown from then on: its place holds its note, or that several share the place.
-use Rattle.std.proofs.Common.{ℕ, ◌+◌, ◌/◌, ◌%◌, ◌≤◌, ◌<◌, ◌≡◌, refl, sym, Bool, true, false, cond, ◌||◌, List, [], ◌∷◌, ◌++◌, append-nil, arith, mod-lt, eq-eqb, ne_eqb, eqb-true, ltb-true}
+use Rattle.std.proofs.Common.{ℕ, ◌+◌, ◌/◌, ◌%◌, ◌≤◌, ◌<◌, ◌≡◌, refl, sym, Bool, true, false, cond, ◌&&◌, ◌||◌, List, [], ◌∷◌, ◌++◌, append-nil, arith, mod-lt, eq-eqb, ne_eqb, eqb-true, ltb-true}
 use Rattle.std.proofs.Common.{ltb-false, eqb, ltb, length, get_or, set, length-set, drop-cons, get_or-set_same, get_or-set_other}
 use mathlib.Core.Bool.{or-true, or-false}
 use borrow.Author.Tests.{eqb-false}
@@ -9,10 +9,11 @@ use Rattle.laws.specs.Lists.{any}
 use Rattle.laws.specs.Texts.{same_bytes}
 use Rattle.laws.proofs.Lists.{any_append}
 use Rattle.laws.proofs.Texts.{bytes-equal}
+use Rattle.tags.specs.Tag.{State}
 use Rattle.fields.specs.Field.{tag_of, front}
 use Rattle.fields.specs.Number.{text_number}
 use Rattle.model.specs.Model.{name_of}
-use Rattle.questions.specs.Noted.{table_place, note_of, joined_note, held_at, shows, with_number, Noted, names_with}
+use Rattle.questions.specs.Noted.{table_place, note_of, joined_note, held_at, shows, with_number, shows_front, with_front}
 
 -- whether a place that holds this shows the note
 abbrev shows_note : ℕ → ℕ → Bool
@@ -102,15 +103,26 @@ shows-noted : (t : List ℕ) (n : ℕ) → shows (with_number t n) n ≡ true
 unfolding shows
 shows-noted t n = rw (same_place t n n refl) (joined-shows (held_at t n) (note_of n))
 
--- names, by their numbers in a base
+-- a table shows every name of a list by its number in a base, as it does once they were noted
+pub record Noted (base : ℕ) (names : List (List ℕ)) (table : List ℕ) : Type 0 where
+  pub shown : (name : List ℕ) → any (same_bytes name) names ≡ true → shows table (text_number base name) ≡ true
+
+-- the names, and behind them that of the field at the front of s, if it is a state field
+abbrev pub names_with : List (List ℕ) → List ℕ → List (List ℕ)
+names_with names s = names ++ cond (eqb (tag_of s) State) (name_of (front s) ∷ []) []
+
+-- whether the field at the front of s is a state field with one of these names
+abbrev pub repeats : List (List ℕ) → List ℕ → Bool
+repeats names s = eqb (tag_of s) State && any (same_bytes (name_of (front s))) names
+
 pub noted-none : (base : ℕ) (t : List ℕ) → Noted base [] t
 unfolding any
 noted-none base t = record { shown = λ name e. cc }
 
 module _ (base : ℕ) (names : List (List ℕ)) (t : List ℕ) (i : Noted base names t) where
   -- a name that is not shown is none of them
-  pub not-shown : (name : List ℕ) → shows t (text_number base name) ≡ false → any (same_bytes name) names ≡ false
-  not-shown name e = go (any (same_bytes name) names) refl
+  not_shown : (name : List ℕ) → shows t (text_number base name) ≡ false → any (same_bytes name) names ≡ false
+  not_shown name e = go (any (same_bytes name) names) refl
     where
       go : (k : Bool) → any (same_bytes name) names ≡ k → any (same_bytes name) names ≡ false
       go true h = cc (i.shown name h)
@@ -125,10 +137,26 @@ module _ (base : ℕ) (names : List (List ℕ)) (t : List ℕ) (i : Noted base n
       go x true h e = shows_kept t (text_number base name) (text_number base x) (i.shown x h)
       go x false h e = rw (bytes-equal x name e) (shows-noted t (text_number base name))
 
-  module _ (s : List ℕ) (g : ℕ) (f : g ≡ tag_of s) where
-    pub noted_other : (g ≡ 1 → ⊥) → Noted base (names_with names s) t
-    noted_other n = rw (← f, ne_eqb g 1 n, append-nil) i
+  module _ (s : List ℕ) where
+    pub noted-front : Noted base (names_with names s) (with_front base s t)
+    noted-front = go (eqb (tag_of s) State)
+      where
+        go : (k : Bool) → Noted base (names ++ cond k (name_of (front s) ∷ []) []) (cond k (with_number t (text_number base (name_of (front s)))) t)
+        go true = noted_more (name_of (front s))
+        go false = rw append-nil i
 
-    pub noted-state : g ≡ 1 → (name : List ℕ) → name ≡ name_of (front s) → (m : ℕ) → m ≡ text_number base name →
-        (u : List ℕ) → u ≡ with_number t m → Noted base (names_with names s) u
-    noted-state h name e m k u q = rw (← f, eq-eqb g 1 h, ← e, q, k) (noted_more name)
+    -- where the table shows no state field at the front of s, it repeats no name, and where it shows one, the names decide
+    pub unseen : shows_front base s t ≡ false → repeats names s ≡ false
+    unseen = go (eqb (tag_of s) State)
+      where
+        go : (k : Bool) → k && shows t (text_number base (name_of (front s))) ≡ false → k && any (same_bytes (name_of (front s))) names ≡ false
+        go true e = not_shown (name_of (front s)) e
+        go false e = refl
+
+    pub seen : shows_front base s t ≡ true → repeats names s ≡ any (same_bytes (name_of (front s))) names
+    seen = go (eqb (tag_of s) State)
+      where
+        go : (k : Bool) → k && shows t (text_number base (name_of (front s))) ≡ true →
+            k && any (same_bytes (name_of (front s))) names ≡ any (same_bytes (name_of (front s))) names
+        go true e = refl
+        go false e = cc

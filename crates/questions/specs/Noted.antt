@@ -1,7 +1,5 @@
 -- Names noted in a table, by numbers made of their bytes: a name whose number the table does not show was not noted.
-use Rattle.std.specs.Prelude.{ℕ, ◌+◌, ◌/◌, ◌%◌, ◌≡◌, Bool, true, cond, ◌||◌, List, [], ◌∷◌, ◌++◌, eqb, length, get_or, set}
-use Rattle.laws.specs.Lists.{any}
-use Rattle.laws.specs.Texts.{same_bytes}
+use Rattle.std.specs.Prelude.{ℕ, ◌+◌, ◌/◌, ◌%◌, Bool, cond, ◌&&◌, ◌||◌, List, eqb, length, get_or, set}
 use Rattle.tags.specs.Tag.{State}
 use Rattle.fields.specs.Field.{tag_of, front}
 use Rattle.fields.specs.Number.{text_number}
@@ -31,10 +29,10 @@ shows table n = eqb (held_at table n) (note_of n) || eqb (held_at table n) 255
 unfoldable pub with_number : List ℕ → ℕ → List ℕ
 with_number table n = set table (table_place table n) (joined_note (held_at table n) (note_of n))
 
--- a table shows every name of a list by its number in a base, as it does once they were noted
-pub record Noted (base : ℕ) (names : List (List ℕ)) (table : List ℕ) : Type 0 where
-  pub shown : (name : List ℕ) → any (same_bytes name) names ≡ true → shows table (text_number base name) ≡ true
+-- whether a table shows the name of the field at the front of s, which is a state field, by its number in a base
+abbrev pub shows_front : (base : ℕ) → (s table : List ℕ) → Bool
+shows_front base s table = eqb (tag_of s) State && shows table (text_number base (name_of (front s)))
 
--- the names, and behind them that of the field at the front of s, if it is a state field
-abbrev pub names_with : List (List ℕ) → List ℕ → List (List ℕ)
-names_with names s = names ++ cond (eqb (tag_of s) State) (name_of (front s) ∷ []) []
+-- the table with the name of the field at the front of s, if it is a state field
+abbrev pub with_front : (base : ℕ) → (s table : List ℕ) → List ℕ
+with_front base s table = cond (eqb (tag_of s) State) (with_number table (text_number base (name_of (front s)))) table

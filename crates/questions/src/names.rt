@@ -1,18 +1,16 @@
 // Question 7: are state names different? Names that came before are noted in a table, by numbers made of their bytes, and a
 // name is compared with them only where the table shows its number.
-ghost use Rattle.std.specs.Prelude.{◌≡◌, ◌<◌, ◌&&◌, [], eqb};
-ghost use Rattle.laws.specs.Lists.{any};
-ghost use Rattle.laws.specs.Texts.{same_bytes};
-ghost use Rattle.tags.specs.Tag.{State};
-ghost use Rattle.fields.specs.Field.{tag_of, fields, front};
-ghost use Rattle.model.specs.Model.{name_of, states, state_names};
-ghost use Rattle.questions.specs.Noted.{joined_note, shows, with_number, Noted, names_with};
+ghost use Rattle.std.specs.Prelude.{◌≡◌, ◌<◌, []};
+ghost use Rattle.fields.specs.Field.{fields};
+ghost use Rattle.model.specs.Model.{states};
+ghost use Rattle.questions.specs.Noted.{joined_note, shows, with_number, shows_front, with_front};
 ghost use Rattle.questions.specs.Questions.{ask_names};
 ghost use Rattle.questions.specs.Answers.{asked};
+ghost use Rattle.questions.specs.Compared.{Right};
 
 use super::check::Answer;
 use fields::bytes::keep;
-use fields::front::{after_front, first_from, front_tag, is_whole, length_of};
+use fields::front::{after_front, front_tag, is_whole, length_of};
 use fields::number::text_number;
 use model::{has_state, name_of};
 use tags::STATE;
@@ -35,23 +33,19 @@ const NUMBERS_OF_A_NOTE: usize = 2048;
 // What a place holds where different notes came together.
 const SEVERAL: u8 = 255;
 
-// The base in which the names are numbered to work out a base from them.
+// The base of the first comparison.
 const FIRST_BASE: usize = 1640531527;
 
-// An odd base for the numbers of the names, worked out from all of them. Any base gives the right answer. In one that is known
-// beforehand, an author soon writes thousands of names of one number; this one is known only behind the last name. It is no
-// secret: an author who works for it, or tries many sets of names, still finds names that crowd in their own base.
-fn names_base(file: &[u8]) -> usize
-    ensures { result < 2147483648 }
-{
-    let mut seed = 0;
-    let mut t = first_from(file, STATE, STATE);
-    while is_whole(t) {
-        seed = (seed + text_number(name_of(t), FIRST_BASE)) * FIRST_BASE % 4294967296;
-        let u = first_from(after_front(t), STATE, STATE);
-        t = u;
-    }
-    seed / 4 * 2 + 1
+// So many false alarms the first comparison may have: names that the table shows and that yet did not come before. In a good
+// base a file of 2,500 names has about a dozen; for each, all names before are looked at.
+const FEW_ALARMS: usize = 24;
+
+// What a comparison of the names says: the answer, where it did not give up, or that too many names crowd in the places of the
+// table.
+#[derive(Drop)]
+enum Compared {
+    All { answer: Answer },
+    Crowded,
 }
 
 // What a place holds after one more note; 0 is no note.
@@ -80,55 +74,87 @@ fn note_number(number: usize, table: &mut [u8]) -> bool
     (held == note) | (held == SEVERAL)
 }
 
-// Whether the field at the front of s is a state field with a name that a state field before it has. The table shows the names
-// before it, so most names need not be looked for, and then shows this name too.
-fn repeats_name(before: &[u8], s: &[u8], base: usize, table: &mut [u8]) -> bool
-    requires small { base < 2147483648 }
-    requires noted { Noted base (state_names (fields before.now)) table.old }
-    ensures answer { result ≡ eqb (tag_of s.now) State && any (same_bytes (name_of (front s.now))) (state_names (fields before.now)) }
-    ensures noted { Noted base (names_with (state_names (fields before.now)) s.now) table.new }
+// Notes the name of the field at the front of s in the table, if it is a state field, and answers whether the table showed it
+// before.
+fn note_name(s: &[u8], base: usize, table: &mut [u8]) -> bool
+    requires { base < 2147483648 }
+    ensures shown { result ≡ shows_front base s.now table.old }
+    ensures noted { table.new ≡ with_front base s.now table.old }
 {
     if front_tag(s) != STATE {
         return false;
     }
-    let name = name_of(s);
-    if !note_number(text_number(name, base), table) {
-        return false;
-    }
-    has_state(before, name)
+    note_number(text_number(name_of(s), base), table)
 }
 
-// The first state field whose name an earlier one has: the names before it are those of the bytes before it. What the lent
+// The first state field whose name an earlier one has: the names before it are those of the bytes before it. The table shows
+// them, so most names need not be looked for. The comparison gives up at one false alarm more than are allowed. What the lent
 // table holds at first makes no difference to the answer.
-fn check_names_in(file: &[u8], base: usize, table: &mut [u8]) -> Answer
+fn check_names_in(file: &[u8], base: usize, allowed: usize, table: &mut [u8]) -> Compared
     requires { base < 2147483648 }
-    ensures { asked result ≡ ask_names [] (states (fields file.now)) }
+    ensures { Right file.now allowed result }
 {
     let mut t = file;
     let mut at = 0;
+    let mut alarms = 0;
     while is_whole(t) {
-        if repeats_name(keep(file, at), t, base, table) {
-            return Answer::Refused {
-                number: 7,
-                place: at,
-            };
+        if note_name(t, base, table) {
+            if has_state(keep(file, at), name_of(t)) {
+                return Compared::All {
+                    answer: Answer::Refused {
+                        number: 7,
+                        place: at,
+                    },
+                };
+            }
+            if alarms == allowed {
+                return Compared::Crowded;
+            }
+            alarms += 1;
         }
         at += 3 + length_of(t);
         let u = after_front(t);
         t = u;
     }
-    Answer::Passes
+    Compared::All {
+        answer: Answer::Passes,
+    }
 }
 
-// The same with a base and a table of its own. Each branch works out the base behind its table: where that was done before the
-// test, the compiler cleared both tables.
-pub fn check_names(file: &[u8]) -> Answer
-    ensures { asked result ≡ ask_names [] (states (fields file.now)) }
+// The same with a table of its own.
+fn compare_names(file: &[u8], base: usize, allowed: usize) -> Compared
+    requires { base < 2147483648 }
+    ensures { Right file.now allowed result }
 {
     if file.len() <= SHORT_FILE {
         let mut table = [0u8; SHORT_TABLE];
-        return check_names_in(file, names_base(file), &mut table);
+        return check_names_in(file, base, allowed, &mut table);
     }
     let mut table = [0u8; LONG_TABLE];
-    check_names_in(file, names_base(file), &mut table)
+    check_names_in(file, base, allowed, &mut table)
+}
+
+// The base after this one, worked out from all bytes of the file, so that it is not known before they are chosen. It is odd, so
+// that every byte of a name counts.
+fn next_base(file: &[u8], base: usize) -> usize
+    requires { base < 2147483648 }
+    ensures { result < 2147483648 }
+{
+    text_number(file, base) / 4 * 2 + 1
+}
+
+// Any base gives the right answer, but in an unlucky one many names crowd in few places. Then they are compared anew in another
+// base, with twice as many false alarms allowed, so that an end comes: no file has more of them than names.
+pub fn check_names(file: &[u8]) -> Answer
+    ensures { asked result ≡ ask_names [] (states (fields file.now)) }
+{
+    let mut base = FIRST_BASE;
+    let mut allowed = FEW_ALARMS;
+    loop {
+        if let Compared::All { answer } = compare_names(file, base, allowed) {
+            return answer;
+        }
+        base = next_base(file, base);
+        allowed *= 2;
+    }
 }

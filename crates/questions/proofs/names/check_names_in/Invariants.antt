@@ -4,7 +4,7 @@ use Rattle.questions.proofs.Naming.{Naming}
 use Rattle.questions.proofs.names.check_names_in.Given as goal
 
 abbrev pub invariant-loop-t : goal.invariant-loop-t
-invariant-loop-t l = Naming l.file l.initial.table l.table l.t l.base l.at
+invariant-loop-t l = Naming l.file l.initial.table l.table l.t l.base l.at l.alarms
 
 abbrev pub decreases-loop-t : goal.decreases-loop-t
 decreases-loop-t l = length l.t
