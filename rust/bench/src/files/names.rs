@@ -30,55 +30,47 @@ fn named(names: impl Iterator<Item = String>) -> Vec<Field> {
     fields.chain([entry("f", vec![])]).collect()
 }
 
-/// The number that a name had in the table of question 7 while it was the same
-/// in all files: one of 128 notes at one of 16,384 places.
-fn name_number(name: &str) -> usize {
-    let number = |number, byte| (number * 137 + usize::from(byte)) % 2_097_152;
-    name.bytes().fold(0, number)
-}
-
-/// State fields of which each one's name is compared with all before it: their
-/// names have one number. The last two characters are worked out from the rest.
-fn names_of_one_number(count: usize) -> Vec<Field> {
-    let ended = |front: String| {
-        let without = name_number(&format!("{front}  "));
-        let missing = (2_097_152 + 1_000_000 - without) % 2_097_152;
-        let (high, low) = (missing / 137, missing % 137);
-        let fits = high < 95 && low < 95;
-        fits.then(|| format!("{front}{}{}", character(high), character(low)))
-    };
-    named(texts(3).filter_map(ended).take(count))
-}
-
-/// The same with shorter names, which share a few places: a place with two
-/// different notes no longer tells which names it has.
-fn names_of_few_places(count: usize) -> Vec<Field> {
-    let shared = |name: &String| name_number(name) % 16_384 < 64;
-    named(texts(3).filter(shared).take(count))
-}
-
-/// The base of the number below.
+/// The first base in which the checker numbers names.
 const BASE: u32 = 1_640_531_527;
 
-/// The upper half of this number is compared before a name is.
+/// A name's number. Its upper bits are its place and its note in the table of
+/// question 7; the upper half is compared before other names are.
 fn text_number(text: &str) -> u32 {
     let number = |number: u32, byte| number.wrapping_add(u32::from(byte)).wrapping_mul(BASE);
     text.bytes().fold(0, number)
 }
 
-/// At most 1,200 texts of four characters for which that half is the same. The
-/// last two characters are looked for by their number.
-pub fn of_one_short_number(count: usize) -> Vec<String> {
+/// Texts whose numbers have the same upper bits: a front of so many characters,
+/// and two that are looked for by their number.
+fn of_one_number(front: u32, lower_bits: u32) -> impl Iterator<Item = String> {
     let numbered = |text: String| (text_number(&text), text);
     let mut ends: Vec<(u32, String)> = texts(2).map(numbered).collect();
     ends.sort();
-    let ended = |front: String| {
+    texts(front).flat_map(move |front| {
         let shifted = text_number(&front).wrapping_mul(BASE).wrapping_mul(BASE);
         let least = 0x8000_0000_u32.wrapping_sub(shifted);
         let first = ends.partition_point(|(number, _)| *number < least);
-        let fits = move |end: &&(u32, String)| end.0 - least < 0x1_0000;
+        let fits = move |end: &&(u32, String)| end.0 - least < 1 << lower_bits;
         let fit = ends[first..].iter().take_while(fits);
-        fit.map(move |(_, end)| format!("{front}{end}"))
-    };
-    texts(2).flat_map(ended).take(count).collect()
+        let ended: Vec<String> = fit.map(|(_, end)| format!("{front}{end}")).collect();
+        ended
+    })
+}
+
+/// State fields of which each one's name has the number of all before it, in the
+/// first base.
+fn names_of_one_number(count: usize) -> Vec<Field> {
+    named(of_one_number(3, 11).take(count))
+}
+
+/// The same with shorter names, which share a few places: a place with two
+/// different notes no longer tells which names it has.
+fn names_of_few_places(count: usize) -> Vec<Field> {
+    let shared = |name: &String| text_number(name) >> 18 < 64;
+    named(texts(3).filter(shared).take(count))
+}
+
+/// At most 1,200 texts of four characters whose numbers have the same upper half.
+pub fn of_one_short_number(count: usize) -> Vec<String> {
+    of_one_number(2, 16).take(count).collect()
 }
