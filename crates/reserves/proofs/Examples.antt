@@ -21,7 +21,7 @@ use Rattle.reserve_tokens.specs.ReserveTokens.{credited, guard_token, guard_toke
 use Rattle.guards.specs.Guards.{contains_inflow, guarded_field, guarded_amount, guarded_by, contains_wrapping, lowered_by, lowers}
 use Rattle.fields.specs.Number.{number_from}
 use Rattle.reserves.specs.Reserves.{reserve_covers, reserve_bounding_payout}
-use Rattle.guards.specs.Lowerings.{is_lowering, lowering_at, lowering_numbers, lowered_in}
+use Rattle.guards.specs.Lowerings.{is_lowering, lowering_at, lowering_numbers, lowers_at, lowered_in}
 
 abbrev r : List ℕ
 r = identifier "r"
@@ -173,7 +173,7 @@ lowerings-listed = refl
 
 -- whether a table of one lowering, of that number, lowers r or s
 named : ℕ → List Bool
-unfolding same_bytes fields fields_to nth composite ident lowered_in number_from
+unfolding same_bytes fields fields_to nth composite ident lowers_at lowered_in number_from
 named number = map (λ x. lowered_in (before ++ taking lowered) (bytes x) (number ∷ 130 ∷ [])) ("r" ∷ "s" ∷ [])
 
 -- its own number, that of s, and neither
