@@ -58,7 +58,8 @@ module _ (entry f : Field) (a : Bool) (e : a ≡ is_credit f) where
   unfolding is_funding_call
   no-credit h = rw (← e, not-true a h)
 
-  pub by-amount : not a ≡ false → (p q : List ℕ) → front p ≡ part 2 f → front q ≡ peel (front p) → (r : Bool) → r ≡ is_inflow entry (front q) → r ≡ is_funding_call entry f
+  pub by-amount : not a ≡ false → (p q : List ℕ) → front p ≡ part 2 f → front q ≡ peel (front p) →
+      (r : Bool) → r ≡ is_inflow entry (front q) → r ≡ is_funding_call entry f
   unfolding is_funding_call
   by-amount h p q u v r o = o ∙ rw (← e, not-false a h, v, u)
 
@@ -84,7 +85,8 @@ funding-call m entry f h = go (is_call f) refl
 
 -- so the calls of the body decide
 pub calls-fund : (file : List ℕ) (n : ℕ) → length file < 65536 → (m : List ℕ) →
-    funded_by (front (drop n file)) (fields_at file (places_of Call (body_exprs (placed_at file n)))) m ≡ funded_by (front (drop n file)) (exprs (front (drop n file))) m
+    funded_by (front (drop n file)) (fields_at file (places_of Call (body_exprs (placed_at file n)))) m
+    ≡ funded_by (front (drop n file)) (exprs (front (drop n file))) m
 unfolding funded_by fields_at
 calls-fund file n h m =
     rw (body-read file n Call h) (any-first (is_funding m (front (drop n file))) is_call (funding-call m (front (drop n file))) (exprs (front (drop n file))))

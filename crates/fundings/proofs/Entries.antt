@@ -1,14 +1,11 @@
 -- The entries of a file, one after the other: the set that each map has so far, with what those ahead name that fund it, is the set of
 -- all.
-use Rattle.std.proofs.Common.{ℕ, ◌-◌, ◌≤◌, ◌≡◌, refl, ◌∙◌, true, false, List, arith, length, take, drop}
+use Rattle.std.proofs.Common.{ℕ, ◌-◌, ◌≤◌, ◌≡◌, refl, ◌∙◌, true, false, List, arith, length, take}
 use Rattle.tags.specs.Tag.{Entry}
-use Rattle.fields.specs.Field.{whole, after, front, from}
+use Rattle.fields.specs.Field.{whole, after, from}
 use Rattle.fields.proofs.Rows.{from-shorter, from_less}
-use Rattle.walking.specs.Walking.{exprs}
-use Rattle.walking.specs.Table.{placed_at}
-use Rattle.tokens.specs.Numbers.{tokens_number}
 use Rattle.fundings.specs.FundingTokens.{funds}
-use Rattle.fundings.specs.Fundings.{funded_by, number_of_map, Mapped, Joins, Right}
+use Rattle.fundings.specs.Fundings.{funded_by, number_of_map, Mapped, EntryJoins, Right}
 use Rattle.fundings.proofs.Funders.{Ledger, ledger-all, ledger-on, ledger-done}
 
 pub record Entries (file table last t : List ℕ) (n : ℕ) : Type 0 where
@@ -31,9 +28,7 @@ module _ (file table last t : List ℕ) (n : ℕ) (i : Entries file table last t
   entries-done w h m = ledger-done file m (number_of_map file m (take n last)) t (i.each (rw (← i.wide) h) m) w
 
   pub entries-on : whole t ≡ true → (u : List ℕ) (k : ℕ) →
-      Joins file (funded_by (front (drop (length file - length t) file)) (exprs (front (drop (length file - length t) file))))
-      (tokens_number file (placed_at file (length file - length t))) last n u k →
-      (y j : List ℕ) → y ≡ after t → j ≡ from Entry Entry y → Entries file table u j k
+      EntryJoins file (length file - length t) last n u k → (y j : List ℕ) → y ≡ after t → j ≡ from Entry Entry y → Entries file table u j k
   unfolding funded_by funds
   entries-on w u k p y j a b = record {
     wide = p.long ∙ i.wide;

@@ -91,7 +91,8 @@ abbrev listed : List ℕ
 listed = short_number (bytes "m") ∷ 0 ∷ 29 ∷ short_number (bytes "w") ∷ 36 ∷ 1 ∷ []
 
 -- a map's set is that of its own name; a map that is not listed has an empty one, and so has one whose number stands with another name
-looked-up : map (λ m. number_of_map two-maps m listed) (bytes "m" ∷ bytes "w" ∷ bytes "n" ∷ []) ++ number_of_map two-maps (bytes "n") (short_number (bytes "n") ∷ 0 ∷ 29 ∷ []) ∷ []
+looked-up : map (λ m. number_of_map two-maps m listed) (bytes "m" ∷ bytes "w" ∷ bytes "n" ∷ [])
+    ++ number_of_map two-maps (bytes "n") (short_number (bytes "n") ∷ 0 ∷ 29 ∷ []) ∷ []
     ≡ 29 ∷ 1 ∷ 0 ∷ 0 ∷ []
 unfolding fields fields_to nth composite same_bytes ident receiver number_from is_map number_of_map two-maps
 looked-up = refl

@@ -19,4 +19,5 @@ unfolding field_at fields_at funded_by funds
 funding-all s m h table calls count l k =
     let room : count ≤ length table = room-lent s 0 table calls count l (omega (arith, k)) in
     seeking-all (field_at (is_funding m (front s)) s) calls count _ (calls-room s 0 table calls count l room)
-    (rw (calls-front s 0 table calls count l room) (sym (any-map _ (is_funding m (front s)) (places_of Call (body_exprs (placed_at s 0)))) ∙ calls-fund s 0 (omega arith) m))
+    (rw (calls-front s 0 table calls count l room)
+    (sym (any-map _ (is_funding m (front s)) (places_of Call (body_exprs (placed_at s 0)))) ∙ calls-fund s 0 (omega arith) m))

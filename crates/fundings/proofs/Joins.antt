@@ -26,7 +26,7 @@ use Rattle.tokens.specs.Numbers.{token_of, joined, tokens_number, Standing}
 use Rattle.tokens.proofs.Joining.{joined-again, joined-first, joined-empty}
 use Rattle.tokens.proofs.Numbers.{number_small}
 use Rattle.fundings.specs.Funder.{FunderOf}
-use Rattle.fundings.specs.Fundings.{is_funding_call, funded_by, before_map, number_of_map, joined_if, Mapped, Joins}
+use Rattle.fundings.specs.Fundings.{is_funding_call, funded_by, before_map, number_of_map, joined_if, Mapped, Joins, EntryJoins}
 use Rattle.fundings.proofs.Calls.{calls_count, calls-front, funding-either, calls-fund, awaited}
 use Rattle.fundings.proofs.Maps.{before-inside, before-three, number-there, number-written, number-behind}
 
@@ -126,7 +126,11 @@ module _ (file table : List ℕ) (n : ℕ) (p : Mapped table n) (call named : �
 
       pub join-listed : Joined v r
       join-listed = record {
-        mapped = record { wide = rw (listed-long written) p.wide; threes = omega (arith, p.threes, written.count); few = rw (listed-long written) (omega (arith, w, written.count)) };
+        mapped = record {
+          wide = rw (listed-long written) p.wide;
+          threes = omega (arith, p.threes, written.count);
+          few = rw (listed-long written) (omega (arith, w, written.count));
+        };
         long = listed-long written;
         before = λ b. w;
         each = λ b m.
@@ -144,9 +148,9 @@ joined-small file a b h k r e =
 
 -- Call by call
 
-one_call : (file : List ℕ) (e : Field) (call : ℕ) (m : List ℕ) → funded_by e (front (drop call file) ∷ []) m ≡ is_funding_call e (front (drop call file)) && same_bytes (receiver (front (drop call file))) m
+one_call : (e f : Field) (m : List ℕ) → funded_by e (f ∷ []) m ≡ is_funding_call e f && same_bytes (receiver f) m
 unfolding funded_by any
-one_call file e call m = or-false (is_funding m e (front (drop call file))) ∙ funding-either m e (front (drop call file))
+one_call e f m = or-false (is_funding m e f) ∙ funding-either m e f
 
 module _ (file : List ℕ) (e : Field) (further : ℕ) where
   -- those of a table up to i
@@ -176,16 +180,20 @@ module _ (file : List ℕ) (e : Field) (further : ℕ) where
           ))
 
 -- A call of the entry at a place
-module _ (file : List ℕ) (n : ℕ) (y : List ℕ) (o : y ≡ drop n file) (call : ℕ) (x : List ℕ) (f : x ≡ drop call file) (b : Bool) (g : b ≡ is_funding_call (front y) (front x))
-    (further : ℕ) (table : List ℕ) (j : ℕ) where
+module _ (file : List ℕ) (n : ℕ) (y : List ℕ) (o : y ≡ drop n file) (call : ℕ) (x : List ℕ) (f : x ≡ drop call file)
+    (b : Bool) (g : b ≡ is_funding_call (front y) (front x)) (further : ℕ) (table : List ℕ) (j : ℕ) where
+  abbrev pub call_there : Field
+  call_there = front (drop call file)
+
   -- that funds no map
-  pub joins-nothing : Mapped table j → not b ≡ true → Joins file (funded_by (front (drop n file)) (front (drop call file) ∷ [])) further table j table j
-  joins-nothing p h = joins-none file further table j p _ (λ m. one_call file (front (drop n file)) call m ∙ rw (← o, ← f, ← g, not-true b h))
+  pub joins-nothing : Mapped table j → not b ≡ true → Joins file (funded_by (front (drop n file)) (call_there ∷ [])) further table j table j
+  joins-nothing p h = joins-none file further table j p _ (λ m. one_call (front (drop n file)) call_there m ∙ rw (← o, ← f, ← g, not-true b h))
 
   -- and one that funds its own
-  pub joins-own : not b ≡ false → (last : List ℕ) (r : ℕ) → Joins file (same_bytes (receiver (front (drop call file)))) further table j last r →
-      Joins file (funded_by (front (drop n file)) (front (drop call file) ∷ [])) further table j last r
-  joins-own h last r i = joins-same file further table j _ last r i _ (λ m. sym (one_call file (front (drop n file)) call m ∙ rw (← o, ← f, ← g, not-false b h)))
+  pub joins-own : not b ≡ false → (last : List ℕ) (r : ℕ) → Joins file (same_bytes (receiver call_there)) further table j last r →
+      Joins file (funded_by (front (drop n file)) (call_there ∷ [])) further table j last r
+  joins-own h last r i =
+      joins-same file further table j _ last r i _ (λ m. sym (one_call (front (drop n file)) call_there m ∙ rw (← o, ← f, ← g, not-false b h)))
 
 -- All calls of the entry
 
@@ -193,19 +201,20 @@ module _ (file : List ℕ) (n : ℕ) (h : Standing file n 0) (table : List ℕ) 
   abbrev entry : Field
   entry = front (drop n file)
 
-  abbrev Entry_joins : List ℕ → ℕ → Type 0
-  Entry_joins last r = Joins file (funded_by entry (exprs entry)) (tokens_number file (placed_at file n)) table j last r
-
   -- one without asset parameters
-  pub joins-unasked : Mapped table j → (x old now : List ℕ) (count : ℕ) → x ≡ drop n file → Listed (asset_numbers (front x)) old 0 now count → count ≡ 0 → Entry_joins table j
-  unfolding funded_by is_funding_call is_inflow
-  joins-unasked p x old now count e l z =
-      joins-none file (tokens_number file (placed_at file n)) table j p _
-      (λ m. any_none (is_funding m entry) (λ f. funding-either m entry f ∙ rw (no-assets (drop n file) x old now count e l z (asset_amount_backer (peel (part 2 f))), and-false) refl) (exprs entry))
+  module _ (x old now : List ℕ) (count : ℕ) (e : x ≡ drop n file) (l : Listed (asset_numbers (front x)) old 0 now count) (z : count ≡ 0) where
+    no_call : (m : List ℕ) (f : Field) → is_funding m entry f ≡ false
+    unfolding is_funding_call is_inflow
+    no_call m f =
+        funding-either m entry f ∙ rw (no-assets (drop n file) x old now count e l z (asset_amount_backer (peel (part 2 f))), and-false)
+
+    pub joins-unasked : Mapped table j → EntryJoins file n table j table j
+    unfolding funded_by
+    joins-unasked p = joins-none file (tokens_number file (placed_at file n)) table j p _ (λ m. any_none (is_funding m entry) (no_call m) (exprs entry))
 
   module _ (zeros calls : List ℕ) (count : ℕ) (l : Listed (places_of Call (body_exprs (placed_at file n))) zeros 0 calls count) (w : count ≤ length zeros) where
     module _ (named : ℕ) (t : named ≡ tokens_number file (placed_at file n)) (last : List ℕ) (r : ℕ) where
-      pub joins-all : Joins file (funded_by entry (fields_at file (take count calls))) named table j last r → Entry_joins last r
+      pub joins-all : Joins file (funded_by entry (fields_at file (take count calls))) named table j last r → EntryJoins file n table j last r
       joins-all p =
           rw (← t)
           (joins-same file named table j _ last r p _
@@ -218,13 +227,15 @@ module _ (file : List ℕ) (n : ℕ) (h : Standing file n 0) (table : List ℕ) 
 
       -- none before the first that funds some map funds any
       pub joins-from : (named : ℕ) → named ≡ tokens_number file (placed_at file n) → (d : List ℕ) → d ≡ drop k (take count calls) → (last : List ℕ) (r : ℕ) →
-          Joins file (funded_by entry (fields_at file d)) named table j last r → Entry_joins last r
+          Joins file (funded_by entry (fields_at file d)) named table j last r → EntryJoins file n table j last r
       joins-from named t d e last r p = rw (← t) (joins-same file named table j _ last r p _ (λ m. rw e (behind_first m)))
 
       -- and none at all where there is none
-      pub joins-free : Mapped table j → k ≡ count → Entry_joins table j
+      pub joins-free : Mapped table j → k ≡ count → EntryJoins file n table j table j
       unfolding funded_by fields_at any
-      joins-free p e = joins-none file (tokens_number file (placed_at file n)) table j p _ (λ m. sym (behind_first m) ∙ rw (drop_of_length-le (take count calls) {i = k} short))
+      joins-free p e =
+          joins-none file (tokens_number file (placed_at file n)) table j p _
+          (λ m. sym (behind_first m) ∙ rw (drop_of_length-le (take count calls) {i = k} short))
         where
           short : length (take count calls) ≤ k
           short = omega (arith, e, calls_count file n zeros calls count l w)

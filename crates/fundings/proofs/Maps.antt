@@ -18,7 +18,8 @@ module _ (file m : List ℕ) (own number call : ℕ) (e : own ≡ short_number m
   unfolding is_map
   other-map = other-number m own number e (same_bytes (receiver (front (drop call file))) m)
 
-  pub by_map : number ≡ own → (x : List ℕ) → x ≡ drop call file → (y : List ℕ) → y ≡ receiver (front x) → (b : Bool) → b ≡ same_bytes y m → b ≡ is_map file m number call
+  pub by_map : number ≡ own → (x : List ℕ) → x ≡ drop call file → (y : List ℕ) → y ≡ receiver (front x) →
+      (b : Bool) → b ≡ same_bytes y m → b ≡ is_map file m number call
   unfolding is_map
   by_map h x f y g b k = equal-number m own number e b h ∙ rw (k, g, f)
 
@@ -99,7 +100,8 @@ module _ (file x m : List ℕ) where
       kept false e f n g = g
 
       go : (k : Bool) → is_map file x a b ≡ k →
-          (before_map file x l < length l → (v : ℕ) → number_of_map file m (set l (before_map file x l + 2) v) ≡ cond (same_bytes x m) v (number_of_map file m l)) →
+          (before_map file x l < length l → (v : ℕ) →
+          number_of_map file m (set l (before_map file x l + 2) v) ≡ cond (same_bytes x m) v (number_of_map file m l)) →
           cond k 0 (3 + before_map file x l) < length (a ∷ b ∷ c ∷ l) →
           number_of_map file m (set (a ∷ b ∷ c ∷ l) (cond k 0 (3 + before_map file x l) + 2) v)
           ≡ cond (same_bytes x m) v (cond (is_map file m a b) c (number_of_map file m l))
@@ -113,7 +115,8 @@ module _ (file x m : List ℕ) where
           rw z (kept (is_map file m a b) refl e _ (f (omega (arith, g)) v))
 
   -- the map x behind maps of which it is none
-  pub number-behind : (l : List ℕ) → length l % 3 ≡ 0 → before_map file x l ≡ length l → (number call v : ℕ) → number ≡ short_number x → receiver (front (drop call file)) ≡ x →
+  pub number-behind : (l : List ℕ) → length l % 3 ≡ 0 → before_map file x l ≡ length l →
+      (number call v : ℕ) → number ≡ short_number x → receiver (front (drop call file)) ≡ x →
       number_of_map file m (l ++ number ∷ call ∷ v ∷ []) ≡ cond (same_bytes x m) v (number_of_map file m l)
   unfolding before_map number_of_map
   number-behind [] t h number call v e f = rw (map_itself file x number call e f m)

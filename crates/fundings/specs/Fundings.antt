@@ -7,7 +7,8 @@ use Rattle.laws.specs.Lists.{any, filter}
 use Rattle.fields.specs.Field.{Field, fields, front, part}
 use Rattle.fields.specs.Number.{short_number}
 use Rattle.model.specs.Model.{entries}
-use Rattle.walking.specs.Walking.{peel, receiver}
+use Rattle.walking.specs.Walking.{peel, receiver, exprs}
+use Rattle.walking.specs.Table.{placed_at}
 use Rattle.tokens.specs.Tokens.{is_inflow, is_credit, is_funding}
 use Rattle.tokens.specs.Numbers.{joined, joined_all, tokens_number}
 use Rattle.fundings.specs.FundingTokens.{funds}
@@ -61,7 +62,14 @@ pub record Joins (file : List ℕ) (funded : List ℕ → Bool) (further : ℕ) 
   pub mapped : Mapped last r
   pub long : length last ≡ length table
   pub before : r ≤ length table → n ≤ length table
-  pub each : r ≤ length table → (m : List ℕ) → number_of_map file m (take r last) ≡ joined_if file (funded m) (number_of_map file m (take n table)) further
+  pub each : r ≤ length table → (m : List ℕ) →
+      number_of_map file m (take r last) ≡ joined_if file (funded m) (number_of_map file m (take n table)) further
+
+-- what the entry at a place names is joined to the sets of the maps that it funds
+abbrev pub EntryJoins : (file : List ℕ) → (place : ℕ) → (table : List ℕ) → (n : ℕ) → (last : List ℕ) → (r : ℕ) → Type 0
+EntryJoins file place table n last r =
+    Joins file (funded_by (front (drop place file)) (exprs (front (drop place file))))
+    (tokens_number file (placed_at file place)) table n last r
 
 -- each map has the set of the tokens that fund it, if all found room
 abbrev pub Right : (file table : List ℕ) → (n : ℕ) → Type 0

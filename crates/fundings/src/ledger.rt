@@ -8,11 +8,11 @@ ghost use Rattle.fields.specs.Field.{front};
 ghost use Rattle.fields.specs.Number.{short_number};
 ghost use Rattle.fields.specs.Table.{fields_at};
 ghost use Rattle.walking.specs.Assets.{Assets};
-ghost use Rattle.walking.specs.Walking.{receiver, exprs};
-ghost use Rattle.walking.specs.Table.{placed_at};
-ghost use Rattle.tokens.specs.Numbers.{tokens_number, Standing};
-ghost use Rattle.fundings.specs.Fundings.{is_funding_call, funded_by, is_map, before_map, number_of_map, Mapped, Joins, Right};
-ghost use Rattle.fundings.specs.Funder.{FunderOf};
+ghost use Rattle.walking.specs.Walking.{receiver};
+ghost use Rattle.tokens.specs.Numbers.{Standing};
+ghost use Rattle.fundings.specs.Fundings.{is_funding_call, is_map, before_map, number_of_map};
+ghost use Rattle.fundings.specs.Fundings.{Mapped, Joins, EntryJoins, Right};
+ghost use Rattle.fundings.specs.Funder.{FunderOf, CallsJoin};
 
 use fields::bytes::{same_bytes, skip};
 use fields::front::{after_front, first_from, is_whole, part_of};
@@ -139,7 +139,7 @@ fn list_call(
     requires small { call < 65536 }
     requires entry { FunderOf file.now assets.now entry }
     requires mapped { Mapped table.old n }
-    ensures { Joins file.now (funded_by (front (drop entry.place file.now)) (front (drop call file.now) ∷ [])) entry.named table.old n table.new result }
+    ensures { CallsJoin file.now entry (front (drop call file.now) ∷ []) table.old n table.new result }
 {
     if !is_funding_call(
         skip(file, entry.place),
@@ -163,7 +163,7 @@ fn list_calls(
 ) -> usize
     requires entry { FunderOf file.now assets.now entry }
     requires mapped { Mapped table.old n }
-    ensures { Joins file.now (funded_by (front (drop entry.place file.now)) (fields_at file.now calls.now)) entry.named table.old n table.new result }
+    ensures { CallsJoin file.now entry (fields_at file.now calls.now) table.old n table.new result }
 {
     let mut m = n;
     let mut i = 0;
@@ -188,7 +188,7 @@ fn list_many(
     requires assets { Assets (drop place file.now) assets.now count }
     requires room { length file.now ≤ 3 * length scratch.old }
     requires mapped { Mapped table.old n }
-    ensures { Joins file.now (funded_by (front (drop place file.now)) (exprs (front (drop place file.now)))) (tokens_number file.now (placed_at file.now place)) table.old n table.new result }
+    ensures { EntryJoins file.now place table.old n table.new result }
 {
     let funder = Funder {
         place: place,
@@ -212,7 +212,7 @@ fn list_entry(
     requires standing { Standing file.now place 0 }
     requires room { length file.now ≤ 3 * length scratch.old }
     requires mapped { Mapped table.old n }
-    ensures { Joins file.now (funded_by (front (drop place file.now)) (exprs (front (drop place file.now)))) (tokens_number file.now (placed_at file.now place)) table.old n table.new result }
+    ensures { EntryJoins file.now place table.old n table.new result }
 {
     let entry = skip(file, place);
     let count = list_assets(entry, assets);

@@ -134,7 +134,8 @@ among-all : (s name : List ℕ) → among s name (asset_numbers (front s)) ≡ a
 unfolding asset_numbers asset_params params placed_from
 among-all s name =
     among-placed s name (placed_from Parameter Parameter 3 (parts (front s)))
-    (every-filter (Stands s) (λ p. between Parameter Parameter (tag p.this)) (placed 3 (parts (front s))) (parts-stand s (record { place = 0; this = front s }) refl))
+    (every-filter (Stands s) (λ p. between Parameter Parameter (tag p.this)) (placed 3 (parts (front s)))
+    (parts-stand s (record { place = 0; this = front s }) refl))
     ∙ ap (λ fs. any (same_bytes name) (map name_of (filter is_asset_parameter fs))) (placed_row Parameter Parameter 3 (parts (front s)))
 
 -- where none is listed, none has a name
