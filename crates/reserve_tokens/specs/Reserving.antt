@@ -35,7 +35,3 @@ pub record Found (file : List ℕ) (k : ℕ) : Type 0 where
 -- the token of a raise bars the field: it is unknown, or differs from the one found so far
 unfoldable pub bars : List ℕ → List ℕ → Bool
 bars found t = not (known t) || differ found t
-
--- the map that was looked up last, where there is one, has the number that was found
-unfoldable pub remembered : (file last : List ℕ) → ℕ → ℕ
-remembered file last k = cond (known last) (funding_number file last) k

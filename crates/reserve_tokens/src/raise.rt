@@ -1,21 +1,20 @@
 // SPDX-License-Identifier: Apache-2.0 OR MIT
-// The token of one raise, and what the raises so far agree on. A token is known by its number, which is the place of a comparison
-// that names it.
-ghost use Rattle.std.specs.Prelude.{◌≡◌, cond, [], ◌∷◌, ◌≤◌, length, drop};
+// The token of one raise, and whether it bars the field. A token is known by its number, which is the place of a comparison that
+// names it.
+ghost use Rattle.std.specs.Prelude.{◌≡◌, cond, ◌≤◌, length, drop};
 ghost use Rattle.fields.specs.Table.{fields_at};
 ghost use Rattle.laws.specs.Lists.{any};
 ghost use Rattle.fields.specs.Field.{front};
 ghost use Rattle.walking.specs.Table.{placed_at};
 ghost use Rattle.tokens.specs.Tokens.{is_credit};
 ghost use Rattle.tokens.specs.Numbers.{token_of};
-ghost use Rattle.fundings.specs.Fundings.{funding_number};
 ghost use Rattle.fundings.specs.Funded.{Funded};
 ghost use Rattle.reserve_tokens.specs.Reserving.{with_amount, map_number, Found, bars};
 ghost use Rattle.reserve_tokens.specs.Numbers.{raise_number};
-ghost use Rattle.reserve_tokens.specs.Agreeing.{agreed_with, Agrees, Agreeing, RaisesOf};
+ghost use Rattle.reserve_tokens.specs.Agreeing.{RaisesOf};
 
 use super::calls::{first_debit, is_credited};
-use fields::bytes::{same_bytes, skip};
+use fields::bytes::skip;
 use fundings::facts::funding_number;
 use tokens::inflow::is_listed_inflow;
 use tokens::number::token_of;
@@ -31,14 +30,6 @@ pub struct Raising {
     pub assets: usize,
 }
 
-// What the raises so far agree on: the number of their token, 1 before the first raise and 0 where one bars the field; and the
-// place of the debit whose map was looked up last, which has that token.
-#[derive(Clone, Copy)]
-pub struct Agreed {
-    pub number: usize,
-    pub debit: usize,
-}
-
 // The number of the token of a raise by `p.amount`: that of the guard, and no call may credit the amount too.
 fn inflow_number(file: &[u8], amount: &[u8], guard: usize, calls: &[u16]) -> usize
     ensures { result ≡ cond (any (with_amount is_credit (front amount.now)) (fields_at file.now calls.now)) 0 guard }
@@ -49,23 +40,40 @@ fn inflow_number(file: &[u8], amount: &[u8], guard: usize, calls: &[u16]) -> usi
     guard
 }
 
-// The number of the funding token of a map. For the map that was looked up last it is the one agreed on.
-fn map_number(file: &[u8], map: &[u8], agreed: Agreed, facts: &[u16]) -> usize
+// The number of the funding token of the map of the debit at a place; 0 where no debit stands there.
+fn map_number(file: &[u8], debit: usize, facts: &[u16]) -> usize
     requires short { length file.now ≤ 32768 }
     requires funded { Funded file.now facts.now }
-    requires agreed { Agrees file.now agreed }
-    ensures { result ≡ funding_number file.now map.now }
+    ensures { result ≡ map_number file.now (front (drop debit file.now)) }
 {
-    let last = receiver(skip(file, agreed.debit));
-    if (0 < last.len()) & same_bytes(last, map) {
-        return agreed.number;
+    let call = skip(file, debit);
+    if !is_present(call) {
+        return 0;
     }
-    funding_number(file, map, facts)
+    funding_number(file, receiver(call), facts)
+}
+
+// The number of the token of a raise by the amount. One by `p.amount` is never looked for among the debits.
+pub fn raise_number(
+    file: &[u8],
+    entry: Raising,
+    calls: &[u16],
+    assets: &[u16],
+    amount: &[u8],
+    facts: &[u16],
+) -> usize
+    requires { RaisesOf file.now facts.now entry calls.now assets.now }
+    ensures { result ≡ raise_number file.now (placed_at file.now entry.place) (front amount.now) }
+{
+    if is_listed_inflow(skip(file, entry.place), assets, entry.assets, amount) {
+        return inflow_number(file, amount, entry.guard, calls);
+    }
+    map_number(file, first_debit(file, amount, calls), facts)
 }
 
 // Whether the token of a raise bars the field: it is unknown, or another than the one found so far. Most raises have the
 // number that was found, and then no token is read.
-fn is_barred(file: &[u8], found: usize, number: usize) -> bool
+pub fn is_barred(file: &[u8], found: usize, number: usize) -> bool
     requires { Found file.now found }
     ensures { result ≡ bars (token_of file.now found) (token_of file.now number) }
 {
@@ -77,64 +85,4 @@ fn is_barred(file: &[u8], found: usize, number: usize) -> bool
         return true;
     }
     tokens_differ(token_of(file, found), token)
-}
-
-// What the raises agree on after one whose token has that number; a debit of it stands at that place.
-fn agreed_with(file: &[u8], agreed: Agreed, number: usize, debit: usize) -> Agreed
-    requires { Agrees file.now agreed }
-    ensures { result ≡ agreed_with file.now agreed number debit }
-{
-    if is_barred(file, agreed.number, number) {
-        return Agreed {
-            number: 0,
-            debit: 0,
-        };
-    }
-    Agreed {
-        number: number,
-        debit: debit,
-    }
-}
-
-// The same after a raise that the debit at a place pays for. Where no debit does, the raise bars the field.
-fn after_debit(file: &[u8], debit: usize, agreed: Agreed, facts: &[u16]) -> Agreed
-    requires short { length file.now ≤ 32768 }
-    requires funded { Funded file.now facts.now }
-    requires agreed { Agrees file.now agreed }
-    ensures { Agreeing file.now agreed (map_number file.now (front (drop debit file.now)) ∷ []) result }
-{
-    let call = skip(file, debit);
-    if !is_present(call) {
-        return Agreed {
-            number: 0,
-            debit: 0,
-        };
-    }
-    agreed_with(
-        file,
-        agreed,
-        map_number(file, receiver(call), agreed, facts),
-        debit,
-    )
-}
-
-// The same after a raise by the amount. One by `p.amount` is never looked for among the debits.
-pub fn after_raise(
-    file: &[u8],
-    entry: Raising,
-    calls: &[u16],
-    assets: &[u16],
-    amount: &[u8],
-    facts: &[u16],
-    agreed: Agreed,
-) -> Agreed
-    requires entry { RaisesOf file.now facts.now entry calls.now assets.now }
-    requires agreed { Agrees file.now agreed }
-    ensures { Agreeing file.now agreed (raise_number file.now (placed_at file.now entry.place) (front amount.now) ∷ []) result }
-{
-    if is_listed_inflow(skip(file, entry.place), assets, entry.assets, amount) {
-        let number = inflow_number(file, amount, entry.guard, calls);
-        return agreed_with(file, agreed, number, file.len());
-    }
-    after_debit(file, first_debit(file, amount, calls), agreed, facts)
 }

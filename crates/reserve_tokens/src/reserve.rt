@@ -11,10 +11,11 @@ ghost use Rattle.tokens.specs.Place.{token_place};
 ghost use Rattle.fundings.specs.Funded.{Funded};
 ghost use Rattle.reserve_tokens.specs.ReserveTokens.{reserve_token};
 ghost use Rattle.reserve_tokens.specs.Numbers.{numbers_in, agreed, reserve_number};
-ghost use Rattle.reserve_tokens.specs.Agreeing.{Agrees, Agreeing, RaisesOf};
+ghost use Rattle.reserve_tokens.specs.Reserving.{Found};
+ghost use Rattle.reserve_tokens.specs.Agreeing.{Agreeing, RaisesOf};
 
 use super::guard::only_guard_number;
-use super::raise::{Agreed, Raising, after_raise};
+use super::raise::{Raising, is_barred, raise_number};
 use fields::bytes::skip;
 use fields::front::{after_front, first_from, is_whole, parts_of};
 use raises::raise::{first_raise, has_raise, next_raise, raised_by};
@@ -24,8 +25,9 @@ use tokens::number::token_of;
 use walking::parameters::{ASSET_NUMBERS, list_assets};
 use walking::walk::list_body;
 
-// What the raises of the state field of that name in an entry agree on with those before. One table has the places of all calls of
-// the entry, and another the numbers of its asset parameters.
+// What the raises of the state field of that name in an entry agree on with those before: the number of their token, 1 before the
+// first raise and 0 where one bars the field. One table has the places of all calls of the entry, and another the numbers of its
+// asset parameters.
 fn after_raises(
     file: &[u8],
     entry: Raising,
@@ -33,28 +35,20 @@ fn after_raises(
     assets: &[u16],
     name: &[u8],
     facts: &[u16],
-    before: Agreed,
-) -> Agreed
+    before: usize,
+) -> usize
     requires entry { RaisesOf file.now facts.now entry calls.now assets.now }
-    requires before { Agrees file.now before }
+    requires before { Found file.now before }
     ensures { Agreeing file.now before (numbers_in file.now name.now (placed_at file.now entry.place)) result }
 {
     let mut agreed = before;
     let mut t = first_raise(parts_of(skip(file, entry.place)), name);
     while is_whole(t) {
-        let next = after_raise(
-            file,
-            entry,
-            calls,
-            assets,
-            raised_by(name, t),
-            facts,
-            agreed,
-        );
-        if next.number == 0 {
-            return next;
+        let number = raise_number(file, entry, calls, assets, raised_by(name, t), facts);
+        if is_barred(file, agreed, number) {
+            return 0;
         }
-        agreed = next;
+        agreed = number;
         let u = next_raise(t, name);
         t = u;
     }
@@ -68,13 +62,13 @@ fn after_entry(
     place: usize,
     name: &[u8],
     facts: &[u16],
-    before: Agreed,
+    before: usize,
     assets: &mut [u16],
     scratch: &mut [u16],
-) -> Agreed
+) -> usize
     requires standing { Standing file.now place 0 }
     requires funded { Funded file.now facts.now }
-    requires before { Agrees file.now before }
+    requires before { Found file.now before }
     requires room { length file.now ≤ 3 * length scratch.old }
     ensures { Agreeing file.now before (numbers_in file.now name.now (placed_at file.now place)) result }
 {
@@ -97,23 +91,20 @@ fn raises_number(file: &[u8], name: &[u8], facts: &[u16], scratch: &mut [u16]) -
     requires room { length file.now ≤ 3 * length scratch.old }
     ensures { result ≡ agreed file.now 1 (flat_map (numbers_in file.now name.now) (entries (fields file.now))) }
 {
-    let mut agreed = Agreed {
-        number: 1,
-        debit: file.len(),
-    };
+    let mut agreed = 1;
     let mut assets = [0u16; ASSET_NUMBERS];
     let mut t = first_from(file, ENTRY, ENTRY);
     while is_whole(t) {
         let place = file.len() - t.len();
         let next = after_entry(file, place, name, facts, agreed, &mut assets, scratch);
-        if next.number == 0 {
+        if next == 0 {
             return 1;
         }
         agreed = next;
         let u = first_from(after_front(t), ENTRY, ENTRY);
         t = u;
     }
-    agreed.number
+    agreed
 }
 
 // The number of the token that the state field of that name holds: it starts at zero, and all raises agree on one token; else

@@ -6,8 +6,8 @@ use Rattle.reserve_tokens.proofs.reserve.after_raises.Goals as goal
 pub loop-t-init : goal.loop-t-init
 loop-t-init c = search raises-all
 
-pub returns-then-next-eq0 : goal.returns-then-next-eq0
-returns-then-next-eq0 c = search (raises-barred, told_is)
+pub returns-then-is_barred : goal.returns-then-is_barred
+returns-then-is_barred c = search (raises-barred, told_is)
 
 pub loop-t-smaller : goal.loop-t-smaller
 loop-t-smaller c = search (ahead-less, told_is)

@@ -1,6 +1,6 @@
 -- For `p.amount` the guard decides, for any other raise the first debit of the amount.
-use Rattle.reserve_tokens.proofs.Reserving.{assets-here, raise-comes-in, raise-debited}
-use Rattle.reserve_tokens.proofs.raise.after_raise.Goals as goal
+use Rattle.reserve_tokens.proofs.Raised.{assets-here, raise-comes-in, raise-debited}
+use Rattle.reserve_tokens.proofs.raise.raise_number.Goals as goal
 
 pub is_listed_inflow-requires : goal.is_listed_inflow-requires
 is_listed_inflow-requires c = search assets-here
