@@ -39,6 +39,9 @@ pub const SAMPLES: &[Sample] = &[
         largest(|n| raises_and_debits(n, n, amount(now()), amount(caller())))
     }),
     sample("raised fields", || largest(|n| raised(n, vec![], vec![]))),
+    sample("raised fields and no token", || {
+        largest(|n| raised_for(now(), n, vec![], vec![]))
+    }),
     sample("raised fields and genesis", || {
         let zero = || genesis(assign(tag::SET, now(), now()));
         largest(|n| raised(n, vec![zero(); 2 * n], vec![]))
@@ -219,11 +222,15 @@ fn raises_and_debits(raises: usize, calls: usize, amount: Field, other: Field) -
     ]
 }
 
-/// State fields that are all guarded and lowered by the amount of a payout,
-/// whose token is no identifier, and all raised: each one's token is looked for,
-/// and none is the payout's. Further parts stand in front of the file and of the
-/// raising entry.
+/// State fields that are all guarded and lowered by the amount of a payout, and
+/// all raised: each one's token is looked for, and none is the payout's. Further
+/// parts stand in front of the file and of the raising entry.
 fn raised(count: usize, front: Vec<Field>, parts: Vec<Field>) -> Vec<Field> {
+    raised_for(identifier("U"), count, front, parts)
+}
+
+/// The same for the token that the payout asks for.
+fn raised_for(token: Field, count: usize, front: Vec<Field>, parts: Vec<Field>) -> Vec<Field> {
     let names: Vec<String> = (0..count).map(|i| numbered(i, 2)).collect();
     let mut raising = parts;
     raising.push(statement(debit("m", now())));
@@ -231,7 +238,7 @@ fn raised(count: usize, front: Vec<Field>, parts: Vec<Field>) -> Vec<Field> {
     let mut paying = vec![asset("a")];
     paying.extend(names.iter().map(|name| held(name)));
     paying.extend(names.iter().map(|name| lowered(name)));
-    paying.push(statement(send(now(), of_inflow())));
+    paying.push(statement(send(token, of_inflow())));
     let mut fields = front;
     fields.extend(names.iter().map(|name| short_state(name)));
     fields.push(credits("m", identifier("T")));
