@@ -1,18 +1,22 @@
 -- A table that has a number for each three bytes of the file has room for all calls of an entry, and only a call funds a map.
-use Rattle.std.proofs.Common.{ℕ, suc, ◌+◌, ◌*◌, ◌≤◌, ◌<◌, ◌≡◌, refl, sym, ap, ◌∙◌, Bool, true, false, cond, not, ◌&&◌, ◌||◌, List, [], ◌∷◌, arith, leb-true, length, get_or, take, drop, length-drop, drop_of_length-le, length-take-le}
+use Rattle.std.proofs.Common.{ℕ, suc, ◌+◌, ◌*◌, ◌≤◌, ◌<◌, ◌≡◌, refl, sym, ap, ◌∙◌, Bool, true, false, cond, not, ◌&&◌, ◌||◌, List, [], ◌∷◌, arith, leb-true}
+use Rattle.std.proofs.Common.{ltb-true, ltb-false, ltb, eqb, length, get_or, take, drop, length-drop, drop_of_length-le, length-take-le}
 use borrow.Author.Tests.{not-true, not-false}
 use lib.Seq.{length-sets}
 use Rattle.laws.specs.Lists.{any, position}
 use Rattle.laws.specs.Texts.{same_bytes}
-use Rattle.laws.proofs.Lists.{any-first}
+use Rattle.laws.proofs.Lists.{any-first, Every}
+use Rattle.laws.proofs.Truths.{chosen, and_left}
 use Rattle.laws.proofs.Slices.{drop-step}
-use Rattle.tags.specs.Tag.{Call}
+use Rattle.tags.specs.Tag.{Call, Member}
 use Rattle.fields.specs.Table.{Listed, fields_at}
-use Rattle.fields.specs.Field.{Field, length_of, whole, front, part, size, sizes}
+use Rattle.fields.specs.Field.{Field, Fields, length_of, whole, front, tag, part, parts, nothing, nth, placed, size, sizes}
+use Rattle.fields.specs.Field.Fields.{end, next}
+use Rattle.fields.proofs.Inside.{Stands, parts-stand}
 use Rattle.fields.proofs.Reading.{front-none}
 use Rattle.fields.proofs.Places.{front-size}
 use Rattle.fields.proofs.Tables.{listed-front}
-use Rattle.walking.specs.Walking.{method, receiver, exprs, body_exprs, peel}
+use Rattle.walking.specs.Walking.{method, ident, receiver, exprs, body_exprs, peel}
 use Rattle.walking.specs.Table.{placed_at, places_of}
 use Rattle.walking.proofs.Calls.{is_call}
 use Rattle.walking.proofs.Callers.{body-read, body-few}
@@ -82,6 +86,46 @@ funding-call m entry f h = go (is_call f) refl
     go : (k : Bool) → is_call f ≡ k → is_call f ≡ true
     go true e = e
     go false e = cc
+
+-- the first of some fields of the file stands in front of them, if any is there
+pub first-there : (file : List ℕ) (n i : ℕ) (fs : Fields) → (nth i fs ≡ nothing → ⊥) → Every (Stands file) (placed n fs) → front (drop n file) ≡ nth 0 fs
+unfolding placed nth
+first-there file n i (end r) h e = absurd (h refl)
+first-there file n i (next f fs) h e = e.0
+
+-- a credit has a callee with a name
+no-name : (f : Field) → part 1 (part 0 f) ≡ nothing → method f ≡ []
+unfolding method
+no-name f z = chosen (λ x. x ≡ []) (eqb (tag f) Call && eqb (tag (part 0 f)) Member) (rw z refl) refl
+
+credit-name : (f : Field) → is_credit f ≡ true → part 1 (part 0 f) ≡ nothing → ⊥
+unfolding is_credit any same_bytes
+credit-name f h z = cc (rw (no-name f z) at h)
+
+-- so it names its map behind two heads
+module _ (file : List ℕ) (e : Field) (n : ℕ) (h : is_funding_call e (front (drop n file)) ≡ true) where
+  named : part 1 (part 0 (front (drop n file))) ≡ nothing → ⊥
+  unfolding is_funding_call
+  named = credit-name (front (drop n file)) (and_left (is_credit (front (drop n file))) _ h)
+
+  pub funding-inside : n < length file
+  unfolding nth
+  funding-inside = go (ltb n (length file)) refl
+    where
+      go : (b : Bool) → ltb n (length file) ≡ b → n < length file
+      go true l = ltb-true n (length file) l
+      go false l = absurd (named (rw (drop_of_length-le file {i = n} (ltb-false n (length file) l), front-none [] refl)))
+
+  callee : front (drop (n + 3) file) ≡ part 0 (front (drop n file))
+  unfolding nth
+  callee = first-there file (n + 3) 0 (parts (front (drop n file))) (λ z. named (rw z)) (parts-stand file (placed_at file n) refl)
+
+  pub funding-named : ident (front (drop (n + 6) file)) ≡ receiver (front (drop n file))
+  unfolding receiver
+  funding-named =
+      let z : n + 3 + 3 ≡ n + 6 = omega arith in
+      let called : Field = part 0 (front (drop n file)) in
+      rw (← z, first-there file (n + 3 + 3) 1 (parts called) named (parts-stand file (record { place = n + 3; this = called }) callee))
 
 -- so the calls of the body decide
 pub calls-fund : (file : List ℕ) (n : ℕ) → length file < 65536 → (m : List ℕ) →

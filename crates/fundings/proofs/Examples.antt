@@ -88,18 +88,18 @@ two-maps = set_map "m" ++ set_map "w"
 
 -- three numbers of each
 abbrev listed : List ℕ
-listed = short_number (bytes "m") ∷ 0 ∷ 29 ∷ short_number (bytes "w") ∷ 36 ∷ 1 ∷ []
+listed = short_number (bytes "m") ∷ 6 ∷ 29 ∷ short_number (bytes "w") ∷ 42 ∷ 1 ∷ []
 
 -- a map's set is that of its own name; a map that is not listed has an empty one, and so has one whose number stands with another name
 looked-up : map (λ m. number_of_map two-maps m listed) (bytes "m" ∷ bytes "w" ∷ bytes "n" ∷ [])
-    ++ number_of_map two-maps (bytes "n") (short_number (bytes "n") ∷ 0 ∷ 29 ∷ []) ∷ []
+    ++ number_of_map two-maps (bytes "n") (short_number (bytes "n") ∷ 6 ∷ 29 ∷ []) ∷ []
     ≡ 29 ∷ 1 ∷ 0 ∷ 0 ∷ []
-unfolding fields fields_to nth composite same_bytes ident receiver number_from is_map number_of_map two-maps
+unfolding fields fields_to nth composite same_bytes ident number_from is_map number_of_map two-maps
 looked-up = refl
 
 -- where they stand: behind no number, behind three, behind all
 found : map (λ m. before_map two-maps m listed) (bytes "m" ∷ bytes "w" ∷ bytes "n" ∷ []) ≡ 0 ∷ 3 ∷ 6 ∷ []
-unfolding fields fields_to nth composite same_bytes ident receiver number_from is_map before_map two-maps
+unfolding fields fields_to nth composite same_bytes ident number_from is_map before_map two-maps
 found = refl
 
 -- an entry that credits another map

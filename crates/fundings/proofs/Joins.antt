@@ -17,7 +17,7 @@ use Rattle.fields.specs.Field.{Field, front, part}
 use Rattle.fields.specs.Number.{short_number}
 use Rattle.fields.specs.Table.{Listed, fields_at}
 use Rattle.fields.proofs.Tables.{listed_then, listed-long}
-use Rattle.walking.specs.Walking.{receiver, exprs, body_exprs, peel, asset_amount_backer}
+use Rattle.walking.specs.Walking.{ident, receiver, exprs, body_exprs, peel, asset_amount_backer}
 use Rattle.walking.specs.Assets.{asset_numbers, Assets}
 use Rattle.walking.proofs.Collecting.{no-assets}
 use Rattle.walking.specs.Table.{placed_at, places_of}
@@ -25,9 +25,10 @@ use Rattle.tokens.specs.Tokens.{is_inflow, is_funding}
 use Rattle.tokens.specs.Numbers.{token_of, joined, tokens_number, Standing}
 use Rattle.tokens.proofs.Joining.{joined-again, joined-first, joined-empty}
 use Rattle.tokens.proofs.Numbers.{number_small}
+use Rattle.fundings.specs.declared.ledger.Funder.{Funder}
 use Rattle.fundings.specs.Funder.{FunderOf}
 use Rattle.fundings.specs.Fundings.{is_funding_call, funded_by, before_map, number_of_map, joined_if, Mapped, Joins, EntryJoins}
-use Rattle.fundings.proofs.Calls.{calls_count, calls-front, funding-either, calls-fund, awaited}
+use Rattle.fundings.proofs.Calls.{calls_count, calls-front, funding-either, funding-named, funding-inside, calls-fund, awaited}
 use Rattle.fundings.proofs.Maps.{before-inside, before-three, number-there, number-written, number-behind}
 
 module _ (file : List ℕ) (further : ℕ) where
@@ -57,13 +58,13 @@ module _ (file : List ℕ) (further : ℕ) where
             i.each w m ∙ rw (j.each (rw (j.long) at (i.before w)) m) (joined_twice (f m) (g m) (number_of_map file m (take n table)));
       }
 
--- One call, of the map x
+-- One map x, by the place of its name
 
-module _ (file table : List ℕ) (n : ℕ) (p : Mapped table n) (call named : ℕ) (s : List ℕ) (e : s ≡ drop call file) (x : List ℕ) (f : x ≡ receiver (front s)) where
+module _ (file table : List ℕ) (n : ℕ) (p : Mapped table n) (place named : ℕ) (s : List ℕ) (e : s ≡ drop place file) (x : List ℕ) (f : x ≡ ident (front s)) where
   abbrev Joined : List ℕ → ℕ → Type 0
-  Joined last r = Joins file (same_bytes (receiver (front (drop call file)))) named table n last r
+  Joined last r = Joins file (same_bytes (ident (front (drop place file)))) named table n last r
 
-  here : receiver (front (drop call file)) ≡ x
+  here : ident (front (drop place file)) ≡ x
   here = rw (← e) (sym f)
 
   module _ (w : n ≤ length table) (at : ℕ) (a : at ≡ before_map file x (take n table)) where
@@ -100,16 +101,16 @@ module _ (file table : List ℕ) (n : ℕ) (p : Mapped table n) (call named : �
       }
 
     module _ (h : n ≤ at) (number : ℕ) (g : number ≡ short_number x) (t u v : List ℕ) (i j r : ℕ)
-        (k : Listed (number ∷ []) table n t i) (l : Listed (call ∷ []) t i u j) (o : Listed (named ∷ []) u j v r) where
-      written : Listed (number ∷ call ∷ named ∷ []) table n v r
-      written = listed_then (number ∷ call ∷ []) (named ∷ []) table u v n j r (listed_then (number ∷ []) (call ∷ []) table t u n i j k l) o
+        (k : Listed (number ∷ []) table n t i) (l : Listed (place ∷ []) t i u j) (o : Listed (named ∷ []) u j v r) where
+      written : Listed (number ∷ place ∷ named ∷ []) table n v r
+      written = listed_then (number ∷ place ∷ []) (named ∷ []) table u v n j r (listed_then (number ∷ []) (place ∷ []) table t u n i j k l) o
 
-      behind : r ≤ length table → take r v ≡ take n table ++ number ∷ call ∷ named ∷ []
+      behind : r ≤ length table → take r v ≡ take n table ++ number ∷ place ∷ named ∷ []
       behind b =
           let c : n + 3 ≤ length table = omega (arith, b, written.count) in
-          let q : v ≡ (take n table ++ number ∷ call ∷ named ∷ []) ++ drop (n + 3) table =
-          written.kept ∙ sets-eq (number ∷ call ∷ named ∷ []) table n c in
-          rw q (take_at (take n table ++ number ∷ call ∷ named ∷ []) (drop (n + 3) table) r (rw (length-append, long) (sym written.count)))
+          let q : v ≡ (take n table ++ number ∷ place ∷ named ∷ []) ++ drop (n + 3) table =
+          written.kept ∙ sets-eq (number ∷ place ∷ named ∷ []) table n c in
+          rw q (take_at (take n table ++ number ∷ place ∷ named ∷ []) (drop (n + 3) table) r (rw (length-append, long) (sym written.count)))
 
       none : before_map file x (take n table) ≡ length (take n table)
       none = omega (arith, h, a, long, before-inside file x (take n table))
@@ -135,7 +136,7 @@ module _ (file table : List ℕ) (n : ℕ) (p : Mapped table n) (call named : �
         before = λ b. w;
         each = λ b m.
             rw (here, behind b)
-            (number-behind file x m (take n table) (rw long p.threes) none number call named g here ∙ told m named (rw empty first));
+            (number-behind file x m (take n table) (rw long p.threes) none number place named g here ∙ told m named (rw empty first));
       }
 
 -- a set of two bytes, joined to another
@@ -190,10 +191,18 @@ module _ (file : List ℕ) (n : ℕ) (y : List ℕ) (o : y ≡ drop n file) (cal
   joins-nothing p h = joins-none file further table j p _ (λ m. one_call (front (drop n file)) call_there m ∙ rw (← o, ← f, ← g, not-true b h))
 
   -- and one that funds its own
-  pub joins-own : not b ≡ false → (last : List ℕ) (r : ℕ) → Joins file (same_bytes (receiver call_there)) further table j last r →
+  funds-one : not b ≡ false → is_funding_call (front (drop n file)) call_there ≡ true
+  funds-one h = rw (← o, ← f, ← g) (not-false b h)
+
+  pub joins-own : not b ≡ false → (last : List ℕ) (r : ℕ) → Joins file (same_bytes (ident (front (drop (call + 6) file)))) further table j last r →
       Joins file (funded_by (front (drop n file)) (call_there ∷ [])) further table j last r
   joins-own h last r i =
-      joins-same file further table j _ last r i _ (λ m. sym (one_call (front (drop n file)) call_there m ∙ rw (← o, ← f, ← g, not-false b h)))
+      joins-same file further table j _ last r i _
+      (λ m. sym (one_call (front (drop n file)) call_there m ∙ rw (← funding-named file (front (drop n file)) call (funds-one h), funds-one h)))
+
+  -- which stands in the file
+  pub call-small : not b ≡ false → (assets : List ℕ) (en : Funder) → FunderOf file assets en → call < 32768
+  call-small h assets en w = omega (arith, w.short, funding-inside file (front (drop n file)) call (funds-one h))
 
 -- All calls of the entry
 
@@ -243,4 +252,4 @@ module _ (file : List ℕ) (n : ℕ) (h : Standing file n 0) (table : List ℕ) 
 -- what is known of it
 pub funder-known : (file : List ℕ) (n : ℕ) → Standing file n 0 → (assets : List ℕ) (count : ℕ) → Assets (drop n file) assets count →
     (named : ℕ) → named ≡ tokens_number file (placed_at file n) → FunderOf file assets (record { place = n; assets = count; named = named })
-funder-known file n h assets count a named t = record { listed = a; named = t; small = number_small file n 0 h named t }
+funder-known file n h assets count a named t = record { short = h.short; listed = a; named = t; small = number_small file n 0 h named t }

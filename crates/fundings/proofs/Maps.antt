@@ -8,35 +8,35 @@ use Rattle.laws.proofs.Truths.{and_left, and_right}
 use Rattle.laws.proofs.Slices.{drop-step}
 use Rattle.fields.specs.Field.{front}
 use Rattle.fields.specs.Number.{short_number}
-use Rattle.walking.specs.Walking.{receiver}
+use Rattle.walking.specs.Walking.{ident}
 use Rattle.walking.proofs.Numbered.{other-number, equal-number, number-told}
 use Rattle.fundings.specs.Fundings.{is_map, before_map, number_of_map}
 
 -- what the code tests: the names are compared where the numbers are equal
-module _ (file m : List ℕ) (own number call : ℕ) (e : own ≡ short_number m) where
-  pub other-map : (number ≡ own → ⊥) → false ≡ is_map file m number call
+module _ (file m : List ℕ) (own number place : ℕ) (e : own ≡ short_number m) where
+  pub other-map : (number ≡ own → ⊥) → false ≡ is_map file m number place
   unfolding is_map
-  other-map = other-number m own number e (same_bytes (receiver (front (drop call file))) m)
+  other-map = other-number m own number e (same_bytes (ident (front (drop place file))) m)
 
-  pub by_map : number ≡ own → (x : List ℕ) → x ≡ drop call file → (y : List ℕ) → y ≡ receiver (front x) →
-      (b : Bool) → b ≡ same_bytes y m → b ≡ is_map file m number call
+  pub by_map : number ≡ own → (x : List ℕ) → x ≡ drop place file → (y : List ℕ) → y ≡ ident (front x) →
+      (b : Bool) → b ≡ same_bytes y m → b ≡ is_map file m number place
   unfolding is_map
   by_map h x f y g b k = equal-number m own number e b h ∙ rw (k, g, f)
 
 -- where numbers are those of the map x, the names decide of which others
-module _ (file x : List ℕ) (number call : ℕ) where
-  pub map_itself : number ≡ short_number x → receiver (front (drop call file)) ≡ x → (m : List ℕ) → is_map file m number call ≡ same_bytes x m
+module _ (file x : List ℕ) (number place : ℕ) where
+  pub map_itself : number ≡ short_number x → ident (front (drop place file)) ≡ x → (m : List ℕ) → is_map file m number place ≡ same_bytes x m
   unfolding is_map
   map_itself e f m = rw (e, f) (number-told x m)
 
-  map-same : is_map file x number call ≡ true → (m : List ℕ) → is_map file m number call ≡ same_bytes x m
+  map-same : is_map file x number place ≡ true → (m : List ℕ) → is_map file m number place ≡ same_bytes x m
   unfolding is_map
   map-same h =
-      let same : Bool = same_bytes (receiver (front (drop call file))) x in
+      let same : Bool = same_bytes (ident (front (drop place file))) x in
       map_itself (eqb-true number (short_number x) (and_left _ same h)) (bytes-equal _ x (and_right (eqb number (short_number x)) same h))
 
   -- and those of another map are not x's
-  map-other : is_map file x number call ≡ false → (m : List ℕ) → is_map file m number call ≡ true → same_bytes x m ≡ false
+  map-other : is_map file x number place ≡ false → (m : List ℕ) → is_map file m number place ≡ true → same_bytes x m ≡ false
   map-other h m g = go (same_bytes x m) refl
     where
       go : (b : Bool) → same_bytes x m ≡ b → b ≡ false
@@ -116,24 +116,24 @@ module _ (file x m : List ℕ) where
 
   -- the map x behind maps of which it is none
   pub number-behind : (l : List ℕ) → length l % 3 ≡ 0 → before_map file x l ≡ length l →
-      (number call v : ℕ) → number ≡ short_number x → receiver (front (drop call file)) ≡ x →
-      number_of_map file m (l ++ number ∷ call ∷ v ∷ []) ≡ cond (same_bytes x m) v (number_of_map file m l)
+      (number place v : ℕ) → number ≡ short_number x → ident (front (drop place file)) ≡ x →
+      number_of_map file m (l ++ number ∷ place ∷ v ∷ []) ≡ cond (same_bytes x m) v (number_of_map file m l)
   unfolding before_map number_of_map
-  number-behind [] t h number call v e f = rw (map_itself file x number call e f m)
-  number-behind (a ∷ []) t h number call v e f = absurd (omega (arith, t))
-  number-behind (a ∷ b ∷ []) t h number call v e f = absurd (omega (arith, t))
-  number-behind (a ∷ b ∷ c ∷ l) t h number call v e f =
-      go (is_map file x a b) refl h (λ z. number-behind l (omega (arith, t)) z number call v e f)
+  number-behind [] t h number place v e f = rw (map_itself file x number place e f m)
+  number-behind (a ∷ []) t h number place v e f = absurd (omega (arith, t))
+  number-behind (a ∷ b ∷ []) t h number place v e f = absurd (omega (arith, t))
+  number-behind (a ∷ b ∷ c ∷ l) t h number place v e f =
+      go (is_map file x a b) refl h (λ z. number-behind l (omega (arith, t)) z number place v e f)
     where
       go : (k : Bool) → is_map file x a b ≡ k → cond k 0 (3 + before_map file x l) ≡ length (a ∷ b ∷ c ∷ l) →
-          (before_map file x l ≡ length l → number_of_map file m (l ++ number ∷ call ∷ v ∷ []) ≡ cond (same_bytes x m) v (number_of_map file m l)) →
-          cond (is_map file m a b) c (number_of_map file m (l ++ number ∷ call ∷ v ∷ []))
+          (before_map file x l ≡ length l → number_of_map file m (l ++ number ∷ place ∷ v ∷ []) ≡ cond (same_bytes x m) v (number_of_map file m l)) →
+          cond (is_map file m a b) c (number_of_map file m (l ++ number ∷ place ∷ v ∷ []))
           ≡ cond (same_bytes x m) v (cond (is_map file m a b) c (number_of_map file m l))
       go true i h r = absurd (omega (arith, h))
       go false i h r = kept (is_map file m a b) refl (r (omega (arith, h)))
         where
-          kept : (j : Bool) → is_map file m a b ≡ j → number_of_map file m (l ++ number ∷ call ∷ v ∷ []) ≡ cond (same_bytes x m) v (number_of_map file m l) →
-              cond j c (number_of_map file m (l ++ number ∷ call ∷ v ∷ [])) ≡ cond (same_bytes x m) v (cond j c (number_of_map file m l))
+          kept : (j : Bool) → is_map file m a b ≡ j → number_of_map file m (l ++ number ∷ place ∷ v ∷ []) ≡ cond (same_bytes x m) v (number_of_map file m l) →
+              cond j c (number_of_map file m (l ++ number ∷ place ∷ v ∷ [])) ≡ cond (same_bytes x m) v (cond j c (number_of_map file m l))
           kept true j g = rw (map-other file x a b i m j)
           kept false j g = g
 

@@ -1,5 +1,5 @@
 -- An entry whose calls the code goes through.
-use Rattle.std.specs.Prelude.{ℕ, ◌<◌, ◌≡◌, List, drop}
+use Rattle.std.specs.Prelude.{ℕ, ◌≤◌, ◌<◌, ◌≡◌, List, length, drop}
 use Rattle.fields.specs.Field.{Field, front}
 use Rattle.walking.specs.Assets.{Assets}
 use Rattle.walking.specs.Table.{placed_at}
@@ -9,6 +9,7 @@ use Rattle.fundings.specs.declared.ledger.Funder.{Funder}
 
 -- what is known of it: the table in which its asset parameters are listed, and what it names
 pub record FunderOf (file assets : List ℕ) (e : Funder) : Type 0 where
+  pub short : length file ≤ 32768
   pub listed : Assets (drop e.place file) assets e.assets
   pub named : e.named ≡ tokens_number file (placed_at file e.place)
   pub small : e.named < 65536

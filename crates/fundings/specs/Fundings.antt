@@ -7,7 +7,7 @@ use Rattle.laws.specs.Lists.{any, filter}
 use Rattle.fields.specs.Field.{Field, fields, front, part}
 use Rattle.fields.specs.Number.{short_number}
 use Rattle.model.specs.Model.{entries}
-use Rattle.walking.specs.Walking.{peel, receiver, exprs}
+use Rattle.walking.specs.Walking.{peel, ident, exprs}
 use Rattle.walking.specs.Table.{placed_at}
 use Rattle.tokens.specs.Tokens.{is_inflow, is_credit, is_funding}
 use Rattle.tokens.specs.Numbers.{joined, joined_all, tokens_number}
@@ -27,25 +27,25 @@ is_funding_call entry f = is_credit f && is_inflow entry (peel (part 2 f))
 unfoldable pub funded_by : Field → List Field → List ℕ → Bool
 funded_by entry fs m = any (is_funding m entry) fs
 
--- Listed maps: each has the short number of its name, the place of a call that funds it, and the set of its tokens
+-- Listed maps: each has the short number of its name, the place where a call that funds it names it, and the set of its tokens
 
 -- the numbers are those of the map
-unfoldable pub is_map : (file m : List ℕ) → (number call : ℕ) → Bool
-is_map file m number call = eqb number (short_number m) && same_bytes (receiver (front (drop call file))) m
+unfoldable pub is_map : (file m : List ℕ) → (number place : ℕ) → Bool
+is_map file m number place = eqb number (short_number m) && same_bytes (ident (front (drop place file))) m
 
 -- how many numbers stand before those of the map; all, where it is not listed
 unfoldable pub before_map : (file m : List ℕ) → List ℕ → ℕ
 before_map file m [] = 0
 before_map file m (number ∷ []) = 1
-before_map file m (number ∷ call ∷ []) = 2
-before_map file m (number ∷ call ∷ set ∷ ks) = cond (is_map file m number call) 0 (3 + before_map file m ks)
+before_map file m (number ∷ place ∷ []) = 2
+before_map file m (number ∷ place ∷ set ∷ ks) = cond (is_map file m number place) 0 (3 + before_map file m ks)
 
 -- the map's set; an empty one, where it is not listed
 unfoldable pub number_of_map : (file m : List ℕ) → List ℕ → ℕ
 number_of_map file m [] = 0
 number_of_map file m (number ∷ []) = 0
-number_of_map file m (number ∷ call ∷ []) = 0
-number_of_map file m (number ∷ call ∷ set ∷ ks) = cond (is_map file m number call) set (number_of_map file m ks)
+number_of_map file m (number ∷ place ∷ []) = 0
+number_of_map file m (number ∷ place ∷ set ∷ ks) = cond (is_map file m number place) set (number_of_map file m ks)
 
 -- a set with a further one, where the map is funded
 abbrev pub joined_if : List ℕ → Bool → (set further : ℕ) → ℕ

@@ -1,6 +1,7 @@
 // SPDX-License-Identifier: Apache-2.0 OR MIT
 // The maps of a file that some call funds, listed once, and a map's token by a look-up among them. What is listed of a map is the
-// short number of its name, the place of a call that funds it, and the set of tokens that the entries with such calls name.
+// short number of its name, the place where a call that funds it names it, and the set of tokens that the entries with such calls
+// name.
 ghost use Rattle.std.specs.Prelude.{◌≡◌, [], ◌∷◌, ◌*◌, ◌≤◌, ◌<◌, length, drop};
 ghost use Rattle.laws.specs.Lists.{position};
 ghost use Rattle.laws.specs.Texts.{same_bytes};
@@ -8,7 +9,7 @@ ghost use Rattle.fields.specs.Field.{front};
 ghost use Rattle.fields.specs.Number.{short_number};
 ghost use Rattle.fields.specs.Table.{fields_at};
 ghost use Rattle.walking.specs.Assets.{Assets};
-ghost use Rattle.walking.specs.Walking.{receiver};
+ghost use Rattle.walking.specs.Walking.{ident};
 ghost use Rattle.tokens.specs.Numbers.{Standing};
 ghost use Rattle.fundings.specs.Fundings.{is_funding_call, is_map, before_map, number_of_map};
 ghost use Rattle.fundings.specs.Fundings.{Mapped, Joins, EntryJoins, Right};
@@ -23,7 +24,7 @@ use tokens::inflow::{is_credit, is_listed_inflow};
 use tokens::number::{join, tokens_number};
 use walking::parameters::{ASSET_NUMBERS, list_assets};
 use walking::peel::peel;
-use walking::shape::receiver;
+use walking::shape::ident;
 use walking::walk::list_body;
 
 // Almost every entry has a handful of calls, which find room in a small table of this size.
@@ -74,14 +75,14 @@ fn first_funding(file: &[u8], entry: &[u8], assets: &[u16], count: usize, calls:
 }
 
 // Whether two listed numbers are those of a map, whose name has the number `own`. A name is read only where the numbers are equal.
-fn is_map(file: &[u8], map: &[u8], own: usize, number: usize, call: usize) -> bool
+fn is_map(file: &[u8], map: &[u8], own: usize, number: usize, place: usize) -> bool
     requires { own ≡ short_number map.now }
-    ensures { result ≡ is_map file.now map.now number call }
+    ensures { result ≡ is_map file.now map.now number place }
 {
     if number != own {
         return false;
     }
-    same_bytes(receiver(skip(file, call)), map)
+    same_bytes(ident(skip(file, place)), map)
 }
 
 // How many of the listed numbers stand before those of a map; all, where it is not listed.
@@ -106,16 +107,16 @@ pub fn number_of_map(file: &[u8], map: &[u8], maps: &[u16]) -> usize
     number_at(maps, find_map(file, map, maps) + 2)
 }
 
-// Joins a set to that of the map which the call at a place funds. A map that is not listed yet is listed, as far as there is room.
-fn join_call(file: &[u8], call: usize, named: usize, table: &mut [u16], n: usize) -> usize
-    requires small { (call < 65536) × (named < 65536) }
+// Joins a set to that of the map whose name stands at a place. A map that is not listed yet is listed, as far as there is room.
+fn join_map(file: &[u8], place: usize, named: usize, table: &mut [u16], n: usize) -> usize
+    requires small { (place < 65536) × (named < 65536) }
     requires mapped { Mapped table.old n }
-    ensures { Joins file.now (same_bytes (receiver (front (drop call file.now)))) named table.old n table.new result }
+    ensures { Joins file.now (same_bytes (ident (front (drop place file.now)))) named table.old n table.new result }
 {
     if table.len() < n {
         return n;
     }
-    let map = receiver(skip(file, call));
+    let map = ident(skip(file, place));
     let at = find_map(file, map, &table[..n]);
     if at < n {
         let set = join(file, wide(table[at + 2]), named);
@@ -123,11 +124,11 @@ fn join_call(file: &[u8], call: usize, named: usize, table: &mut [u16], n: usize
         return n;
     }
     let m = note(true, short_number(map), table, n);
-    let k = note(true, call, table, m);
+    let k = note(true, place, table, m);
     note(true, named, table, k)
 }
 
-// The same of a call of the entry, which may fund no map.
+// The same of a call of the entry, which may fund no map. One that does names it behind two heads, its own and its callee's.
 fn list_call(
     file: &[u8],
     entry: Funder,
@@ -136,7 +137,6 @@ fn list_call(
     table: &mut [u16],
     n: usize,
 ) -> usize
-    requires small { call < 65536 }
     requires entry { FunderOf file.now assets.now entry }
     requires mapped { Mapped table.old n }
     ensures { CallsJoin file.now entry (front (drop call file.now) ∷ []) table.old n table.new result }
@@ -149,7 +149,7 @@ fn list_call(
     ) {
         return n;
     }
-    join_call(file, call, entry.named, table, n)
+    join_map(file, call + 6, entry.named, table, n)
 }
 
 // The same of the calls at the places of a table.

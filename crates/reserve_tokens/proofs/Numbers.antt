@@ -9,7 +9,6 @@ use Rattle.laws.proofs.Lists.{Every, every-filter}
 use Rattle.laws.proofs.Truths.{chosen}
 use Rattle.tags.specs.Tag.{Guard, Eq, is_wrapper, between}
 use Rattle.fields.specs.Field.{Field, Fields, Placed, fields, front, tag, part, parts, nth, placed, placed_from}
-use Rattle.fields.specs.Field.Fields.{end, next}
 use Rattle.fields.proofs.Inside.{Stands, parts-stand}
 use Rattle.fields.proofs.Rows.{placed_row}
 use Rattle.model.specs.Model.{entries}
@@ -22,6 +21,7 @@ use Rattle.tokens.proofs.Joining.{token-none}
 use Rattle.tokens.proofs.Shown.{Shows, peel-stands, token-shows}
 use Rattle.fundings.specs.FundingTokens.{funding_token}
 use Rattle.fundings.specs.Fundings.{funding_number}
+use Rattle.fundings.proofs.Calls.{first-there}
 use Rattle.fundings.proofs.Shown.{entries-stand, funding-token}
 use Rattle.raises.specs.Raises.{starts_at_zero, raises}
 use Rattle.reserve_tokens.specs.ReserveTokens.{credited, guard_token, guard_tokens, only, debit_token, raise_token, raise_tokens, reserve_token}
@@ -41,9 +41,8 @@ module _ (file : List ℕ) where
 
   -- the expression of a guard, if it is there
   first-stands : (n : ℕ) (fs : Fields) → Every (Stands file) (placed n fs) → known (guard_token (nth 0 fs)) ≡ true → front (drop n file) ≡ nth 0 fs
-  unfolding placed nth guard_token known peel is_wrapper
-  first-stands n (end r) e h = cc
-  first-stands n (next f fs) e h = e.0
+  unfolding guard_token known peel is_wrapper
+  first-stands n fs e h = first-there file n 0 fs (λ z. cc (rw z at h)) e
 
   comparison-token : (n : ℕ) (f : Field) → front (drop n file) ≡ f → known (guard_token f) ≡ true → token_of file (peel_place (length file) n f + 2) ≡ guard_token f
   unfolding token_of guard_token known

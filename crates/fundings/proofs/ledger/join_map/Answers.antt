@@ -1,6 +1,6 @@
 -- The map's three numbers are there and its set is written, or they are written behind those of all others.
 use Rattle.fundings.proofs.Joins.{join-there, join-written, join-listed, joined-small}
-use Rattle.fundings.proofs.ledger.join_call.Goals as goal
+use Rattle.fundings.proofs.ledger.join_map.Goals as goal
 
 pub bounds-table-at : goal.bounds-table-at
 bounds-table-at c = search join-there
