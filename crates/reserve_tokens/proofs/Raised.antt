@@ -79,7 +79,8 @@ assets-here file facts en calls assets w x e h = rw e (w.listed h)
 
 module _ (file facts : List ℕ) (en : Raising) (calls assets : List ℕ) (w : RaisesOf file facts en calls assets)
     (x : List ℕ) (e : x ≡ drop en.place file) (v : Field) (b : Bool) (f : b ≡ is_inflow (front x) v) (number : ℕ) where
-  pub raise-comes-in : b ≡ true → number ≡ cond (any (with_amount is_credit v) (fields_at file calls)) 0 en.guard → number ≡ raise_number file (placed_at file en.place) v
+  pub raise-comes-in : b ≡ true → number ≡ cond (any (with_amount is_credit v) (fields_at file calls)) 0 en.guard →
+      number ≡ raise_number file (placed_at file en.place) v
   raise-comes-in h k = k ∙ by-guard file v (placed_at file en.place) (fields_at file calls) w.called (rw e at (sym f ∙ h)) en.guard w.guarded
 
   pub raise-debited : b ≡ false → (debit : ℕ) → front (drop debit file) ≡ first_of (with_amount is_debit v) (fields_at file calls) →

@@ -45,8 +45,8 @@ module _ (file name : List ℕ) (entry : Placed) (before now : ℕ) (t : List �
   pub raises-done : whole t ≡ false → Agreeing file before (numbers_in file name entry) now
   raises-done w = record { found = λ n. i.found; left = λ rest. found-left file now i.found rest ∙ (rw w at (i.left rest)) }
 
-  module _ (w : whole t ≡ true) (amount : List ℕ) (a : front amount ≡ raised_by name (front t)) (number : ℕ) (k : number ≡ raise_number file entry (front amount))
-      (b : Bool) (f : b ≡ bars (token_of file now) (token_of file number)) where
+  module _ (w : whole t ≡ true) (amount : List ℕ) (a : front amount ≡ raised_by name (front t)) (number : ℕ)
+      (k : number ≡ raise_number file entry (front amount)) (b : Bool) (f : b ≡ bars (token_of file now) (token_of file number)) where
     -- the numbers behind it
     abbrev ahead : List ℕ
     ahead = map (raise_number file entry) (map (raised_by name) (filter (is_raise name) (fields_from Guard ExpressionStatement (fields (after t)))))
@@ -59,7 +59,8 @@ module _ (file name : List ℕ) (entry : Placed) (before now : ℕ) (t : List �
     unfolding agreed_after
     raises-barred h = record { found = λ n. absurd (n refl); left = λ rest. rw h at (here rest) }
 
-    pub raises-on : length file ≤ 32768 → b ≡ false → (u : List ℕ) → filter (is_raise name) (fields_from Guard ExpressionStatement (fields (after t))) ≡ raises_from name u →
+    pub raises-on : length file ≤ 32768 → b ≡ false → (u : List ℕ) →
+        filter (is_raise name) (fields_from Guard ExpressionStatement (fields (after t))) ≡ raises_from name u →
         Raises file name entry before number u
     raises-on s h u j = record {
       found = found-known file s number (not-barred (token_of file now) (token_of file number) (sym f ∙ h));

@@ -16,7 +16,7 @@ is_token t u = known u && same_bytes t u
 unfoldable pub holds_token : (file token : List ℕ) → ℕ → Bool
 holds_token file token i = is_token (reserve_token (fields file) (state_name file i)) token
 
--- what a table says of a file is right: of the calls that fund a map, and of each state field that is worked out, that what is
+-- what a table says of a file is right: of the maps that some call funds, and of each state field that is worked out, that what is
 -- remembered is the number of the token that it holds
 pub record Facts (file facts : List ℕ) : Type 0 where
   pub funded : Funded file facts

@@ -1,9 +1,9 @@
 -- Asset parameters are met one after the other: those that are left behind the one at hand are all that are left.
-use Rattle.std.proofs.Common.{ℕ, ◌+◌, ◌^◌, ◌≤◌, ◌<◌, ◌≡◌, ap, true, false, List, [], ◌∷◌, map, arith, w64, Fits, length, take, drop, length-take, length-drop}
+use Rattle.std.proofs.Common.{ℕ, ◌≤◌, ◌<◌, ◌≡◌, ap, true, false, List, [], ◌∷◌, map, arith, length}
 use Rattle.laws.specs.Lists.{any}
 use Rattle.laws.specs.Texts.{same_bytes}
-use Rattle.fields.specs.Field.{fields, whole, after, front, parts, sizes}
-use Rattle.fields.proofs.Reading.{after_less, after-shorter}
+use Rattle.fields.specs.Field.{fields, whole, after, front, parts}
+use Rattle.fields.proofs.Reading.{after_less}
 use Rattle.model.specs.Model.{name_of, params}
 use Rattle.walking.specs.Walking.{asset_params}
 use Rattle.walking.specs.Assets.{assets_in, assets_from}
@@ -47,30 +47,3 @@ module _ (s name t : List ℕ) (i : Unfound s name t) where
     pub unfound-on : same_bytes name x ≡ false → (y u : List ℕ) → y ≡ after t → assets_in (fields y) ≡ assets_from u → Unfound s name u
     unfolding any
     unfound-on k y u e f = rw (names-next t y u w e f, ← h, k) at i
-
--- counting
-pub record Counted (s t : List ℕ) (n : ℕ) : Type 0 where
-  pub room : n + length t ≤ length s
-  pub left : n + length (map name_of (assets_from t)) ≡ length (asset_params (front s))
-
-module _ (s t : List ℕ) where
-  pub counted_none : (x : List ℕ) → fields x ≡ parts (front s) → x ≡ take (sizes (parts (front s))) (drop 3 s) →
-      assets_in (fields x) ≡ assets_from t → length t ≤ length x → Counted s t 0
-  counted_none x e g f h =
-      let l : length x ≤ length s = rw (g, length-take, length-drop) (omega arith) in
-      record { room = omega arith; left = rw (assets-all s x t e f) (omega arith) }
-
-  module _ (n : ℕ) (i : Counted s t n) where
-    pub counted-all : whole t ≡ false → n ≡ length (asset_params (front s))
-    counted-all w = omega (arith, rw (names-none t w) at i.left)
-
-    module _ (w : whole t ≡ true) where
-      pub counted-fits : length s < 2 ^ 64 → Fits w64 (n + 1)
-      counted-fits b = omega (arith, i.room, after-shorter t w)
-
-      pub counted-one : (y u : List ℕ) → y ≡ after t → assets_in (fields y) ≡ assets_from u → length u ≤ length y → Counted s u (n + 1)
-      counted-one y u e f h =
-          record {
-            room = omega (arith, i.room, after_less t y w e);
-            left = omega (arith, rw (names-next t y u w e f) at i.left);
-          }

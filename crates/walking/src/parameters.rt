@@ -58,20 +58,6 @@ pub fn has_asset_parameter(s: &[u8], name: &[u8]) -> bool
     false
 }
 
-// How many asset parameters it has.
-pub fn count_asset_parameters(s: &[u8]) -> usize
-    ensures { result ≡ length (asset_params (front s.now)) }
-{
-    let mut t = first_asset_parameter(parts_of(s));
-    let mut n = 0;
-    while is_whole(t) {
-        let u = first_asset_parameter(after_front(t));
-        t = u;
-        n += 1;
-    }
-    n
-}
-
 // Lists the two numbers of the parameter at the front of s, which stands at a place, from n of the table on; nothing where it is
 // no asset parameter.
 fn list_asset(s: &[u8], place: usize, table: &mut [u16], n: usize) -> usize

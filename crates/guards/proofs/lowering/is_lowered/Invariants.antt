@@ -1,5 +1,5 @@
 -- Those that were passed lower another field, so those that are left decide.
-use Rattle.std.proofs.Common.{ℕ, ◌+◌, ◌-◌, ◌≤◌, ◌<◌, ◌≡◌, refl, sym, ◌∙◌, Bool, true, false, ◌&&◌, ◌||◌, List, [], ◌∷◌, arith, eqb, length, get_or, drop, length-drop}
+use Rattle.std.proofs.Common.{ℕ, ◌+◌, ◌-◌, ◌≤◌, ◌<◌, ◌≡◌, refl, sym, ◌∙◌, Bool, true, false, ◌||◌, List, [], ◌∷◌, arith, length, get_or, drop, length-drop}
 use Rattle.laws.specs.Texts.{same_bytes}
 use Rattle.laws.proofs.Slices.{next-two}
 use Rattle.fields.specs.Field.{front}

@@ -14,9 +14,10 @@ returns-then-is_named c = search among-found
 
 pub loop-i-preserved : goal.loop-i-preserved
 loop-i-preserved c =
-    elim c.if-wide-own.branch
-    [ then-wide-own+else-is_named w ↦ search among-on
-    | else-wide-own w ↦ search among-other ]
+    elim c.if-wide-own.branch [
+      | then-wide-own+else-is_named w ↦ search among-on
+      | else-wide-own w ↦ search among-other
+    ]
 
 pub returns : goal.returns
 returns c = search among-none
