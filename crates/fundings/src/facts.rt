@@ -57,8 +57,8 @@ pub fn funded_token<'a>(file: &'a [u8], map: &[u8], facts: &[u16]) -> &'a [u8]
     token_of(file, funding_number(file, map, facts))
 }
 
-// Lists the maps of the file that some call funds, where they are not listed yet. The scratch table has a number for each three bytes
-// of the file.
+// Lists the maps of the file that some call funds, where they are not listed yet. The scratch table has a number for each three
+// bytes of the file.
 pub fn list_facts(file: &[u8], facts: &mut [u16], scratch: &mut [u16]) -> usize
     requires short { length file.now ≤ 32768 }
     requires funded { Funded file.now facts.old }

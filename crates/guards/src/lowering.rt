@@ -77,8 +77,8 @@ fn note_lowering(amount: &[u8], s: &[u8], at: usize, table: &mut [u16], n: usize
     note(true, at % 65536, table, m)
 }
 
-// Lists what in the entry at a place of the file lowers a state field by the amount: two numbers each, that of its target's name and
-// its place. The answer is how many numbers there are.
+// Lists what in the entry at a place of the file lowers a state field by the amount: two numbers each, that of its target's name
+// and its place. The answer is how many numbers there are.
 pub fn list_lowerings(file: &[u8], place: usize, amount: &[u8], table: &mut [u16]) -> usize
     requires { length file.now ≤ 32768 }
     ensures { Listed (lowering_numbers (front amount.now) (placed_at file.now place)) table.old 0 table.new result }

@@ -76,7 +76,12 @@ module _ (file : List ℕ) (place : ℕ) (asked : List ℕ) (k : ℕ) where
 
   pub unknown-token : known token ≡ false → none ≡ asked_reserve file place asked k
   unfolding reserve_covers
-  unknown-token u = none-covers (λ r. rw (u, and-false (contains_inflow entry amount && any (same_bytes r) (state_names (fields file)) && any (same_bytes r) (guarded_by entry amount) && any (lowers amount r) (body entry))))
+  unknown-token u =
+      none-covers (λ r. rw (
+        u,
+        and-false (contains_inflow entry amount && any (same_bytes r) (state_names (fields file)) && any (same_bytes r) (guarded_by entry amount)
+            && any (lowers amount r) (body entry)),
+      ))
 
   pub no-guard : bounding amount (parts entry) ≡ [] → none ≡ asked_reserve file place asked k
   unfolding reserve_bounding_payout index_in find

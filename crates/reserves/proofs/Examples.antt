@@ -166,7 +166,9 @@ unfolding same_bytes any fields fields_to nth composite size sizes placed flat_m
 numbers bodies = map (λ c. lowering_numbers (front double) (placed_at (before ++ taking c) (length before))) bodies
 
 -- r's name has the number 35659; behind a guard, at once, of another amount, by an addition, and of two names
-lowerings-listed : numbers ((guarded ++ lowered) ∷ lowered ∷ (guarded ++ write SubtractFrom (r ++ n)) ∷ (guarded ++ write AddTo (r ++ double)) ∷ (lowered ++ write SubtractFrom (s ++ double)) ∷ [])
+lowerings-listed : numbers
+    ((guarded ++ lowered) ∷ lowered ∷ (guarded ++ write SubtractFrom (r ++ n)) ∷ (guarded ++ write AddTo (r ++ double)) ∷ (lowered ++ write SubtractFrom (s ++ double))
+    ∷ [])
     ≡ (35659 ∷ 163 ∷ []) ∷ (35659 ∷ 130 ∷ []) ∷ [] ∷ [] ∷ (35659 ∷ 130 ∷ 60692 ∷ 160 ∷ []) ∷ []
 unfolding numbers filter
 lowerings-listed = refl

@@ -1,6 +1,6 @@
 // SPDX-License-Identifier: Apache-2.0 OR MIT
-// The state field that covers a payout. Nothing is worked out before a payout comes to it, and then what costs least is asked first: most
-// payouts ask for no amount that a guard bounds.
+// The state field that covers a payout. Nothing is worked out before a payout comes to it, and then what costs least is asked
+// first: most payouts ask for no amount that a guard bounds.
 ghost use Rattle.std.specs.Prelude.{◌≡◌};
 ghost use Rattle.fields.specs.Field.{front};
 ghost use Rattle.walking.specs.Table.{placed_at};
@@ -111,8 +111,8 @@ fn first_lowered(
     )
 }
 
-// The state field that covers the amount of the k-th payout for its token. The calls of the file that fund a map are listed before a
-// field's token is worked out, since its raises may come from maps.
+// The state field that covers the amount of the k-th payout for its token. The maps that some call funds are listed before a field's
+// token is worked out, since its raises may come from maps.
 pub fn reserve_bounding_payout(
     file: &[u8],
     entry: Entry,

@@ -90,8 +90,8 @@ fn match_payouts(
     }
 }
 
-// Lists the calls of the file that fund a map, where a debit may ask for its map's token. A reserve that asks for one has them listed by
-// itself.
+// Lists the maps that some call of the file funds, where a debit may ask for its map's token. A reserve that asks for one has them
+// listed by itself.
 fn list_if_asked(file: &[u8], debits: usize, facts: &mut [u16], scratch: &mut [u16]) -> usize
     requires { Known file.now facts.old scratch.old }
     ensures { Facts file.now facts.new }

@@ -96,8 +96,8 @@ fn is_named(s: &[u8], assets: &[u16], i: usize, name: &[u8]) -> bool
     same_bytes(name, name_of(skip(s, wide(assets[i + 1]))))
 }
 
-// Whether one of the asset parameters of the entry at the front of s has that name, where these numbers are listed of them. A name is
-// read only where the number is equal.
+// Whether one of the asset parameters of the entry at the front of s has that name, where these numbers are listed of them. A name
+// is read only where the number is equal.
 fn is_among(s: &[u8], assets: &[u16], name: &[u8]) -> bool
     requires { assets.now ≡ asset_numbers (front s.now) }
     ensures { result ≡ any (same_bytes name.now) (asset_params (front s.now)) }
