@@ -5,7 +5,7 @@ use Rattle.tags.specs.Tag.{Entry}
 use Rattle.fields.specs.Field.{whole, after, from}
 use Rattle.fields.proofs.Rows.{from-shorter, from_less}
 use Rattle.fundings.specs.FundingTokens.{funds}
-use Rattle.fundings.specs.Fundings.{funded_by, number_of_map, Mapped, EntryJoins, Right}
+use Rattle.fundings.specs.Fundings.{funded_by, number_of_map, Mapped, EntryJoins, EachMap}
 use Rattle.fundings.proofs.Funders.{Ledger, ledger-all, ledger-on, ledger-done}
 
 pub record Entries (file table last t : List ℕ) (n : ℕ) : Type 0 where
@@ -24,7 +24,7 @@ entries-all file table t h e = record {
 }
 
 module _ (file table last t : List ℕ) (n : ℕ) (i : Entries file table last t n) where
-  pub entries-done : whole t ≡ false → Right file last n
+  pub entries-done : whole t ≡ false → EachMap file last n
   entries-done w h m = ledger-done file m (number_of_map file m (take n last)) t (i.each (rw (← i.wide) h) m) w
 
   pub entries-on : whole t ≡ true → (u : List ℕ) (k : ℕ) →

@@ -4,7 +4,7 @@ use Rattle.std.proofs.Common.{length-drop, length-set, drop_of_length-le, get_or
 use lib.ListN.{get_or-append}
 use Rattle.laws.proofs.Slices.{drop-rest}
 use Rattle.tokens.specs.Numbers.{not_yet}
-use Rattle.fundings.specs.Fundings.{funding_number, number_of_map, Right}
+use Rattle.fundings.specs.Fundings.{funding_number, number_of_map, EachMap}
 use Rattle.fundings.specs.Funded.{Funded, Relisted, remembered_at, state_fields, listed_from, listed_room, facts_size}
 
 -- a front that is kept
@@ -49,7 +49,7 @@ module _ (file facts : List ℕ) (w : Funded file facts) (u : List ℕ) (same : 
         kept = kept-front facts last (λ i k. before (1 + i) (omega (arith, k)));
       }
 
-  pub relisted-all : (r : ℕ) → Right file u r → r ≤ listed_room → Relisted file facts (set last 0 r)
+  pub relisted-all : (r : ℕ) → EachMap file u r → r ≤ listed_room → Relisted file facts (set last 0 r)
   relisted-all r l h =
       let z : get_or (set last 0 r) 0 0 ≡ r = get_or-set_same last 0 r 0 (rw long (omega arith)) in
       record {

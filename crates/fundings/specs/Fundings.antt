@@ -72,5 +72,5 @@ EntryJoins file place table n last r =
     (tokens_number file (placed_at file place)) table n last r
 
 -- each map has the set of the tokens that fund it, if all found room
-abbrev pub Right : (file table : List ℕ) → (n : ℕ) → Type 0
-Right file table n = n ≤ length table → (m : List ℕ) → number_of_map file m (take n table) ≡ funding_number file m
+abbrev pub EachMap : (file table : List ℕ) → (n : ℕ) → Type 0
+EachMap file table n = n ≤ length table → (m : List ℕ) → number_of_map file m (take n table) ≡ funding_number file m

@@ -12,7 +12,7 @@ ghost use Rattle.walking.specs.Assets.{Assets};
 ghost use Rattle.walking.specs.Walking.{ident};
 ghost use Rattle.tokens.specs.Numbers.{Standing};
 ghost use Rattle.fundings.specs.Fundings.{is_funding_call, is_map, before_map, number_of_map};
-ghost use Rattle.fundings.specs.Fundings.{Mapped, Joins, EntryJoins, Right};
+ghost use Rattle.fundings.specs.Fundings.{Mapped, Joins, EntryJoins, EachMap};
 ghost use Rattle.fundings.specs.Funder.{FunderOf, CallsJoin};
 
 use fields::bytes::{same_bytes, skip};
@@ -244,7 +244,7 @@ pub fn list_fundings(file: &[u8], table: &mut [u16], scratch: &mut [u16]) -> usi
     requires short { length file.now ≤ 32768 }
     requires wide { length table.old ≤ 65536 }
     requires room { length file.now ≤ 3 * length scratch.old }
-    ensures { Right file.now table.new result }
+    ensures { EachMap file.now table.new result }
 {
     let mut assets = [0u16; ASSET_NUMBERS];
     let mut t = first_from(file, ENTRY, ENTRY);

@@ -17,7 +17,7 @@ use Rattle.questions.specs.Questions.{ask, ◌and_then◌, ask_names}
 use Rattle.questions.specs.Answers.{asked}
 use Rattle.questions.specs.declared.check.Answer.{Answer}
 use Rattle.questions.specs.declared.check.Answer.TheVariants as answer
-use Rattle.questions.specs.Compared.{Right}
+use Rattle.questions.specs.Compared.{Decided}
 use Rattle.questions.specs.declared.names.Compared.TheVariants as compared
 use Rattle.questions.proofs.Noting.{Noted, names_with, repeats, noted-none, noted-front, unseen, seen}
 
@@ -88,11 +88,11 @@ module _ (file : List ℕ) (at : ℕ) (e : end_of (fields (take at file)) ≡ []
       go earlier ps false = rw append-nil
 
 -- an answer to question 7 is right
-right-answer : (file : List ℕ) (allowed : ℕ) (a : Answer) → asked a ≡ ask_names [] (states (fields file)) → Right file allowed (compared.All a)
+right-answer : (file : List ℕ) (allowed : ℕ) (a : Answer) → asked a ≡ ask_names [] (states (fields file)) → Decided file allowed (compared.All a)
 right-answer file allowed a e = record { answers = λ b f. cc (e, f); crowds = λ f. cc }
 
 module _ (file lent table t : List ℕ) (base at alarms : ℕ) (i : Naming file lent table t base at alarms) where
-  pub naming-done : whole t ≡ false → (allowed : ℕ) → Right file allowed (compared.All answer.Passes)
+  pub naming-done : whole t ≡ false → (allowed : ℕ) → Decided file allowed (compared.All answer.Passes)
   unfolding ask_names placed_from placed filter
   naming-done w allowed = right-answer file allowed answer.Passes (rw (fields-end t w) at i.left)
 
@@ -106,7 +106,7 @@ module _ (file lent table t : List ℕ) (base at alarms : ℕ) (i : Naming file 
     pub naming-in-range : (n : ℕ) → n ≡ length_of t → length file < 2 ^ 64 → Fits w64 (at + (3 + n))
     naming-in-range n e h = let l = fits in rw e (omega arith)
 
-    pub naming-crowded : (allowed : ℕ) → alarms ≡ allowed → Right file allowed compared.Crowded
+    pub naming-crowded : (allowed : ℕ) → alarms ≡ allowed → Decided file allowed compared.Crowded
     naming-crowded allowed e = record { answers = λ a f. cc; crowds = λ f. let l = fits in let r = i.room in omega (arith, e) }
 
     step : (b : Bool) → repeats (state_names (fields (take at file))) t ≡ b →
@@ -141,7 +141,7 @@ module _ (file lent table t : List ℕ) (base at alarms : ℕ) (i : Naming file 
         decides : repeats (state_names (fields (take at file))) t ≡ r
         decides = seen base (state_names (fields (take at file))) table i.noted t (sym k ∙ h) ∙ rw (← p, ← d) (sym g)
 
-        pub naming-repeated : r ≡ true → (allowed : ℕ) → Right file allowed (compared.All (answer.Refused 7 at))
+        pub naming-repeated : r ≡ true → (allowed : ℕ) → Decided file allowed (compared.All (answer.Refused 7 at))
         naming-repeated a allowed = right-answer file allowed (answer.Refused 7 at) (step true (decides ∙ a))
 
         pub naming-alarm : r ≡ false → (n : ℕ) → n ≡ length_of t → (u : List ℕ) → u ≡ after t →

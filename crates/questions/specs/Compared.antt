@@ -10,6 +10,6 @@ use Rattle.questions.specs.declared.names.Compared.TheVariants.{All, Crowded}
 
 -- an answer is that of question 7; a comparison that gave up says only that the file has room for more fields than false
 -- alarms were allowed
-pub record Right (file : List ℕ) (allowed : ℕ) (r : Compared) : Type 0 where
+pub record Decided (file : List ℕ) (allowed : ℕ) (r : Compared) : Type 0 where
   pub answers : (a : Answer) → r ≡ All a → asked a ≡ ask_names [] (states (fields file))
   pub crowds : r ≡ Crowded → 3 * allowed < length file

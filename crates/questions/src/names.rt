@@ -6,7 +6,7 @@ ghost use Rattle.model.specs.Model.{states};
 ghost use Rattle.questions.specs.Noted.{joined_note, shows, with_number, shows_front, with_front};
 ghost use Rattle.questions.specs.Questions.{ask_names};
 ghost use Rattle.questions.specs.Answers.{asked};
-ghost use Rattle.questions.specs.Compared.{Right};
+ghost use Rattle.questions.specs.Compared.{Decided};
 
 use super::check::Answer;
 use fields::bytes::keep;
@@ -92,7 +92,7 @@ fn note_name(s: &[u8], base: usize, table: &mut [u8]) -> bool
 // table holds at first makes no difference to the answer.
 fn check_names_in(file: &[u8], base: usize, allowed: usize, table: &mut [u8]) -> Compared
     requires { base < 2147483648 }
-    ensures { Right file.now allowed result }
+    ensures { Decided file.now allowed result }
 {
     let mut t = file;
     let mut at = 0;
@@ -124,7 +124,7 @@ fn check_names_in(file: &[u8], base: usize, allowed: usize, table: &mut [u8]) ->
 // The same with a table of its own.
 fn compare_names(file: &[u8], base: usize, allowed: usize) -> Compared
     requires { base < 2147483648 }
-    ensures { Right file.now allowed result }
+    ensures { Decided file.now allowed result }
 {
     if file.len() <= SHORT_FILE {
         let mut table = [0u8; SHORT_TABLE];
