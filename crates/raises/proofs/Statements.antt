@@ -1,11 +1,15 @@
--- The raises of an entry are the statements that raise the field.
-use Rattle.std.proofs.Common.{ℕ, ◌≡◌, refl, Bool, true, false, cond, not, ◌&&◌, ◌||◌, List, [], ◌∷◌, map, eqb}
+-- The raises of an entry are the statements that raise the field, each of which sets or adds.
+use Rattle.std.proofs.Common.{ℕ, ◌≤◌, ◌≡◌, refl, sym, ◌∙◌, Bool, true, false, cond, not, ◌&&◌, ◌||◌, List, [], ◌∷◌, map, arith, leb-true, le-leb, eqb, leb}
 use mathlib.Core.List.{flat_map}
+use borrow.Author.Tests.{not-true, eqb-false}
 use Rattle.laws.specs.Lists.{filter}
-use Rattle.tags.specs.Tag.{SubtractFrom, Add, Sub}
-use Rattle.fields.specs.Field.{Field, tag, part}
+use Rattle.laws.specs.Texts.{same_bytes}
+use Rattle.laws.proofs.Lists.{filter-first}
+use Rattle.laws.proofs.Truths.{and_left, and_right, or-none}
+use Rattle.tags.specs.Tag.{Guard, Set, AddTo, SubtractFrom, ExpressionStatement, Add, Sub, between, is_assign}
+use Rattle.fields.specs.Field.{Field, Fields, tag, part, row, fields_from}
 use Rattle.model.specs.Model.{body}
-use Rattle.walking.specs.Walking.{peel}
+use Rattle.walking.specs.Walking.{peel, ident}
 use Rattle.raises.specs.Raises.{assigns, value, sets_from, raise, raises}
 use Rattle.raises.specs.Raising.{is_raise, raised_by}
 
@@ -34,3 +38,43 @@ module _ (r : List ℕ) where
   pub raises-chosen : (entry : Field) → raises r entry ≡ map (raised_by r) (filter (is_raise r) (body entry))
   unfolding raises
   raises-chosen entry = raise-each (body entry)
+
+-- What raises sets or adds
+
+module _ (name : List ℕ) (s : Field) (h : is_raise name s ≡ true) where
+  abbrev t : ℕ
+  t = tag s
+
+  abbrev lowering : Bool
+  lowering = eqb t SubtractFrom || sets_from Sub name s
+
+  is-assign : is_assign t ≡ true
+  unfolding is_raise assigns
+  is-assign = and_left (is_assign t) (same_bytes (ident (part 0 s)) name) (and_left (assigns name s) (not lowering) h)
+
+  is-raise : lowering ≡ false
+  unfolding is_raise
+  is-raise = not-true lowering (and_right (assigns name s) (not lowering) h)
+
+  from-set : Set ≤ t
+  unfolding is_assign
+  from-set = leb-true Set t (and_left (leb Set t) (leb t SubtractFrom) is-assign)
+
+  to-add : t ≤ AddTo
+  unfolding is_assign
+  to-add =
+      let a : t ≤ SubtractFrom = leb-true t SubtractFrom (and_right (leb Set t) (leb t SubtractFrom) is-assign) in
+      let b : t ≡ SubtractFrom → ⊥ = eqb-false t SubtractFrom (or-none (eqb t SubtractFrom) (sets_from Sub name s) is-raise) in
+      omega (arith, b)
+
+  raise-tag : between Set AddTo t ≡ true
+  raise-tag = rw (le-leb Set t from-set, le-leb t AddTo to-add)
+
+  statement-tag : between Guard ExpressionStatement t ≡ true
+  statement-tag = rw (le-leb Guard t (omega (arith, from-set)), le-leb t ExpressionStatement (omega (arith, to-add)))
+
+pub raises-only : (name : List ℕ) (fs : Fields) → filter (is_raise name) (fields_from Set AddTo fs) ≡ filter (is_raise name) (fields_from Guard ExpressionStatement fs)
+unfolding fields_from
+raises-only name fs =
+    filter-first (is_raise name) (λ f. between Set AddTo (tag f)) (raise-tag name) (row fs)
+    ∙ sym (filter-first (is_raise name) (λ f. between Guard ExpressionStatement (tag f)) (statement-tag name) (row fs))

@@ -5,3 +5,4 @@ pub mod Raised
 pub mod Reserving
 pub mod Examples
 pub mod Numbers
+pub mod Replacing

@@ -4,9 +4,10 @@ use mathlib.Core.Option.{none, some}
 use borrow.Author.Tests.{not-true, not-false}
 use Rattle.laws.specs.Lists.{filter, find, any}
 use Rattle.laws.proofs.Lists.{filter_none}
-use Rattle.tags.specs.Tag.{Call}
+use Rattle.tags.specs.Tag.{Call, Set, AddTo, Guard, ExpressionStatement}
 use Rattle.fields.specs.Table.{fields_at}
-use Rattle.fields.specs.Field.{Field, Placed, front, tag, part}
+use Rattle.fields.specs.Field.{Field, Placed, fields, whole, front, tag, part, parts, from, fields_from}
+use Rattle.fields.proofs.Rows.{from_row}
 use Rattle.model.specs.Model.{body}
 use Rattle.walking.specs.Walking.{peel, present, receiver, is_debit, debits, exprs}
 use Rattle.walking.specs.Assets.{Assets}
@@ -16,7 +17,7 @@ use Rattle.equality.specs.Equality.{expr_eq}
 use Rattle.tokens.specs.Tokens.{is_inflow, is_credit}
 use Rattle.fundings.specs.Fundings.{funding_number}
 use Rattle.raises.specs.Raising.{is_raise, raised_by, raising}
-use Rattle.raises.proofs.Statements.{raises-chosen}
+use Rattle.raises.proofs.Statements.{raises-chosen, raises-only}
 use Rattle.reserve_tokens.specs.declared.raise.Raising.{Raising}
 use Rattle.reserve_tokens.specs.Reserving.{with_amount, first_of, map_number}
 use Rattle.reserve_tokens.specs.Numbers.{guard_numbers, only_number, debit_number, raise_number, numbers_in}
@@ -73,11 +74,11 @@ module _ (file : List ℕ) (debit : ℕ) (x : List ℕ) (e : x ≡ drop debit fi
   debit-there h m g number k = rw (← e, ← f, not-false b h, ← g, k)
 
 -- the asset parameters of the entry are listed
-pub assets-here : (file facts : List ℕ) (en : Raising) (calls assets : List ℕ) → RaisesOf file facts en calls assets → (x : List ℕ) → x ≡ drop en.place file →
+pub assets-here : (file : List ℕ) (en : Raising) (calls assets : List ℕ) → RaisesOf file en calls assets → (x : List ℕ) → x ≡ drop en.place file →
     Assets x assets en.assets
-assets-here file facts en calls assets w x e h = rw e (w.listed h)
+assets-here file en calls assets w x e h = rw e (w.listed h)
 
-module _ (file facts : List ℕ) (en : Raising) (calls assets : List ℕ) (w : RaisesOf file facts en calls assets)
+module _ (file : List ℕ) (en : Raising) (calls assets : List ℕ) (w : RaisesOf file en calls assets)
     (x : List ℕ) (e : x ≡ drop en.place file) (v : Field) (b : Bool) (f : b ≡ is_inflow (front x) v) (number : ℕ) where
   pub raise-comes-in : b ≡ true → number ≡ cond (any (with_amount is_credit v) (fields_at file calls)) 0 en.guard →
       number ≡ raise_number file (placed_at file en.place) v
@@ -93,6 +94,14 @@ module _ (file facts : List ℕ) (en : Raising) (calls assets : List ℕ) (w : R
 pub none-raised : (file r : List ℕ) (entry : Placed) → raising r entry.this ≡ false → numbers_in file r entry ≡ []
 unfolding raising numbers_in
 none-raised file r entry h = rw (raises-chosen r entry.this, filter_none (is_raise r) (body entry.this) h)
+
+-- nor has one without a statement that sets or adds
+pub none-assigned : (file r : List ℕ) (entry : Placed) (p : List ℕ) → fields p ≡ parts entry.this → whole (from Set AddTo p) ≡ false → numbers_in file r entry ≡ []
+unfolding numbers_in body filter
+none-assigned file r entry p e w =
+    let z : filter (is_raise r) (fields_from Guard ExpressionStatement (fields p)) ≡ [] =
+    sym (raises-only r (fields p)) ∙ rw (from_row Set AddTo p, w) refl in
+    rw (raises-chosen r entry.this, ← e, z)
 
 -- those of an entry that does
 pub numbers-raised : (file r : List ℕ) (entry : Placed) → numbers_in file r entry ≡ map (raise_number file entry) (map (raised_by r) (filter (is_raise r) (body entry.this)))

@@ -2,3 +2,4 @@ pub mod ReserveTokens
 pub mod Reserving
 pub mod Numbers
 pub mod Agreeing
+pub mod Each

@@ -21,12 +21,13 @@ use tokens::number::token_of;
 use tokens::set::tokens_differ;
 use walking::shape::{is_present, receiver};
 
-// An entry that raises a state field: its place in the file, the number of the token that its only such guard names, and how many
-// numbers are listed of its asset parameters.
+// An entry that raises a state field: its place in the file, the number of the token that its only such guard names, how many of its
+// calls are listed, and how many numbers of its asset parameters.
 #[derive(Clone, Copy)]
 pub struct Raising {
     pub place: usize,
     pub guard: usize,
+    pub calls: usize,
     pub assets: usize,
 }
 
@@ -62,7 +63,8 @@ pub fn raise_number(
     amount: &[u8],
     facts: &[u16],
 ) -> usize
-    requires { RaisesOf file.now facts.now entry calls.now assets.now }
+    requires entry { RaisesOf file.now entry calls.now assets.now }
+    requires funded { Funded file.now facts.now }
     ensures { result ≡ raise_number file.now (placed_at file.now entry.place) (front amount.now) }
 {
     if is_listed_inflow(skip(file, entry.place), assets, entry.assets, amount) {

@@ -2,28 +2,31 @@
 // The token that a state field holds: all raises of it, in all entries, have one token. It is known by its number, so that it can
 // be remembered for the whole file.
 ghost use Rattle.std.specs.Prelude.{◌≡◌, ◌*◌, ◌≤◌, length, take, drop};
-ghost use mathlib.Core.List.{flat_map};
 ghost use Rattle.fields.specs.Field.{fields};
-ghost use Rattle.model.specs.Model.{entries};
 ghost use Rattle.walking.specs.Table.{placed_at};
 ghost use Rattle.tokens.specs.Numbers.{Standing};
 ghost use Rattle.tokens.specs.Place.{token_place};
 ghost use Rattle.fundings.specs.Funded.{Funded};
 ghost use Rattle.reserve_tokens.specs.ReserveTokens.{reserve_token};
-ghost use Rattle.reserve_tokens.specs.Numbers.{numbers_in, agreed, reserve_number};
-ghost use Rattle.reserve_tokens.specs.Reserving.{Found};
-ghost use Rattle.reserve_tokens.specs.Agreeing.{Agreeing, RaisesOf};
+ghost use Rattle.reserve_tokens.specs.Numbers.{numbers_in, reserve_number};
+ghost use Rattle.reserve_tokens.specs.Agreeing.{Agreed, Agreeing, AllAgree, RaisesOf};
+ghost use Rattle.reserve_tokens.specs.Each.{EachAgreed, EachAgreeing, EachAllAgree, EachNumber};
 
 use super::guard::only_guard_number;
 use super::raise::{Raising, is_barred, raise_number};
 use fields::bytes::skip;
 use fields::front::{after_front, first_from, is_whole, parts_of};
+use fields::table::{number_at, wide};
+use model::name_of;
 use raises::raise::{first_raise, has_raise, next_raise, raised_by};
 use raises::zero::starts_at_zero;
-use tags::{CALL, ENTRY};
+use tags::{ADD_TO, CALL, ENTRY, SET};
 use tokens::number::token_of;
 use walking::parameters::{ASSET_NUMBERS, list_assets};
 use walking::walk::list_body;
+
+// How many state fields are gone through at once.
+pub const FIELDS: usize = 64;
 
 // What the raises of the state field of that name in an entry agree on with those before: the number of their token, 1 before the
 // first raise and 0 where one bars the field. One table has the places of all calls of the entry, and another the numbers of its
@@ -37,10 +40,14 @@ fn after_raises(
     facts: &[u16],
     before: usize,
 ) -> usize
-    requires entry { RaisesOf file.now facts.now entry calls.now assets.now }
-    requires before { Found file.now before }
+    requires entry { RaisesOf file.now entry calls.now assets.now }
+    requires funded { Funded file.now facts.now }
+    requires before { Agreed file.now before }
     ensures { Agreeing file.now before (numbers_in file.now name.now (placed_at file.now entry.place)) result }
 {
+    if before == 0 {
+        return 0;
+    }
     let mut agreed = before;
     let mut t = first_raise(parts_of(skip(file, entry.place)), name);
     while is_whole(t) {
@@ -55,8 +62,25 @@ fn after_raises(
     agreed
 }
 
-// The same of the entry at a place of the file. The scratch table has a number for each three bytes of the file, and serves for its
-// calls, and another for its asset parameters.
+// What is the same for all raises of the entry at a place of the file. A scratch table serves for the places of its calls, and another
+// for its asset parameters.
+fn list_raising(file: &[u8], place: usize, assets: &mut [u16], scratch: &mut [u16]) -> Raising
+    requires standing { Standing file.now place 0 }
+    requires room { length file.now ≤ 3 * length scratch.old }
+    ensures here { result.place ≡ place }
+    ensures within { result.calls ≤ length scratch.new }
+    ensures listed { RaisesOf file.now result (take result.calls scratch.new) assets.new }
+{
+    let calls = list_body(file, place, CALL, scratch);
+    Raising {
+        place: place,
+        guard: only_guard_number(file, place),
+        calls: calls,
+        assets: list_assets(skip(file, place), assets),
+    }
+}
+
+// What raises agree on with those of the entry at a place of the file. The scratch table has a number for each three bytes of the file.
 fn after_entry(
     file: &[u8],
     place: usize,
@@ -68,28 +92,31 @@ fn after_entry(
 ) -> usize
     requires standing { Standing file.now place 0 }
     requires funded { Funded file.now facts.now }
-    requires before { Found file.now before }
+    requires before { Agreed file.now before }
     requires room { length file.now ≤ 3 * length scratch.old }
     ensures { Agreeing file.now before (numbers_in file.now name.now (placed_at file.now place)) result }
 {
     if !has_raise(skip(file, place), name) {
         return before;
     }
-    let count = list_body(file, place, CALL, scratch);
-    let entry = Raising {
-        place: place,
-        guard: only_guard_number(file, place),
-        assets: list_assets(skip(file, place), assets),
-    };
-    after_raises(file, entry, &scratch[..count], assets, name, facts, before)
+    let entry = list_raising(file, place, assets, scratch);
+    after_raises(
+        file,
+        entry,
+        &scratch[..entry.calls],
+        assets,
+        name,
+        facts,
+        before,
+    )
 }
 
-// The number of the one token of all raises; 1 where there is no raise or one bars the field.
+// The number of the one token of all raises; 1 where there is no raise, and 0 where one bars the field.
 fn raises_number(file: &[u8], name: &[u8], facts: &[u16], scratch: &mut [u16]) -> usize
     requires short { length file.now ≤ 32768 }
     requires funded { Funded file.now facts.now }
     requires room { length file.now ≤ 3 * length scratch.old }
-    ensures { result ≡ agreed file.now 1 (flat_map (numbers_in file.now name.now) (entries (fields file.now))) }
+    ensures { AllAgree file.now name.now result }
 {
     let mut agreed = 1;
     let mut assets = [0u16; ASSET_NUMBERS];
@@ -98,7 +125,7 @@ fn raises_number(file: &[u8], name: &[u8], facts: &[u16], scratch: &mut [u16]) -
         let place = file.len() - t.len();
         let next = after_entry(file, place, name, facts, agreed, &mut assets, scratch);
         if next == 0 {
-            return 1;
+            return 0;
         }
         agreed = next;
         let u = first_from(after_front(t), ENTRY, ENTRY);
@@ -107,22 +134,132 @@ fn raises_number(file: &[u8], name: &[u8], facts: &[u16], scratch: &mut [u16]) -
     agreed
 }
 
-// The number of the token that the state field of that name holds: it starts at zero, and all raises agree on one token; else
-// 1. It means the same for the whole file. Most fields of a file with many have no raise, and then the start is not asked.
+// The number of the token that the state field of that name holds, by what all its raises agree on: it starts at zero, and they agree on
+// one token; else 1. Most fields of a file with many have no raise, and then the start is not asked.
+fn started(file: &[u8], name: &[u8], agreed: usize) -> usize
+    requires { AllAgree file.now name.now agreed }
+    ensures { result ≡ reserve_number file.now name.now }
+{
+    if agreed < 2 {
+        return 1;
+    }
+    if !starts_at_zero(file, name) {
+        return 1;
+    }
+    agreed
+}
+
+// The same, by all entries. It means the same for the whole file.
 pub fn reserve_number(file: &[u8], name: &[u8], facts: &[u16], scratch: &mut [u16]) -> usize
     requires short { length file.now ≤ 32768 }
     requires funded { Funded file.now facts.now }
     requires room { length file.now ≤ 3 * length scratch.old }
     ensures { result ≡ reserve_number file.now name.now }
 {
-    let number = raises_number(file, name, facts, scratch);
-    if number == 1 {
-        return 1;
+    started(file, name, raises_number(file, name, facts, scratch))
+}
+
+// What the raises of each state field at the places of a table agree on with those of an entry, beside what they agreed on before.
+fn after_raises_of_each(
+    file: &[u8],
+    entry: Raising,
+    calls: &[u16],
+    assets: &[u16],
+    places: &[u16],
+    facts: &[u16],
+    numbers: &mut [u16],
+)
+    requires entry { RaisesOf file.now entry calls.now assets.now }
+    requires funded { Funded file.now facts.now }
+    requires before { EachAgreed file.now places.now numbers.old }
+    ensures { EachAgreeing file.now places.now numbers.old (placed_at file.now entry.place) numbers.new }
+{
+    let mut j = 0;
+    while j < places.len() {
+        let name = name_of(skip(file, number_at(places, j)));
+        let before = wide(numbers[j]);
+        numbers[j] = after_raises(file, entry, calls, assets, name, facts, before) as u16;
+        j += 1;
     }
-    if !starts_at_zero(file, name) {
-        return 1;
+}
+
+// The same of the entry at a place of the file. One that sets and adds to nothing raises no field.
+fn after_entry_of_each(
+    file: &[u8],
+    place: usize,
+    places: &[u16],
+    facts: &[u16],
+    numbers: &mut [u16],
+    assets: &mut [u16],
+    scratch: &mut [u16],
+)
+    requires standing { Standing file.now place 0 }
+    requires funded { Funded file.now facts.now }
+    requires before { EachAgreed file.now places.now numbers.old }
+    requires room { length file.now ≤ 3 * length scratch.old }
+    ensures { EachAgreeing file.now places.now numbers.old (placed_at file.now place) numbers.new }
+{
+    if is_whole(first_from(parts_of(skip(file, place)), SET, ADD_TO)) {
+        let entry = list_raising(file, place, assets, scratch);
+        after_raises_of_each(
+            file,
+            entry,
+            &scratch[..entry.calls],
+            assets,
+            places,
+            facts,
+            numbers,
+        );
     }
-    number
+}
+
+// What all raises of each agree on becomes the number of the token that it holds.
+fn start_each(file: &[u8], places: &[u16], numbers: &mut [u16])
+    requires short { length file.now ≤ 32768 }
+    requires agree { EachAllAgree file.now places.now numbers.old }
+    ensures { EachNumber file.now places.now numbers.new }
+{
+    let mut j = 0;
+    while j < places.len() {
+        let name = name_of(skip(file, number_at(places, j)));
+        let agreed = wide(numbers[j]);
+        numbers[j] = started(file, name, agreed) as u16;
+        j += 1;
+    }
+}
+
+// The numbers of the tokens that the state fields at the places of a table hold: each entry is gone through once for all of them.
+pub fn reserve_numbers(
+    file: &[u8],
+    places: &[u16],
+    facts: &[u16],
+    scratch: &mut [u16],
+) -> [u16; FIELDS]
+    requires short { length file.now ≤ 32768 }
+    requires few { length places.now ≤ 64 }
+    requires funded { Funded file.now facts.now }
+    requires room { length file.now ≤ 3 * length scratch.old }
+    ensures { EachNumber file.now places.now result }
+{
+    let mut numbers = [1u16; FIELDS];
+    let mut assets = [0u16; ASSET_NUMBERS];
+    let mut t = first_from(file, ENTRY, ENTRY);
+    while is_whole(t) {
+        let place = file.len() - t.len();
+        after_entry_of_each(
+            file,
+            place,
+            places,
+            facts,
+            &mut numbers,
+            &mut assets,
+            scratch,
+        );
+        let u = first_from(after_front(t), ENTRY, ENTRY);
+        t = u;
+    }
+    start_each(file, places, &mut numbers);
+    numbers
 }
 
 // The token itself; no bytes where the field holds none.
