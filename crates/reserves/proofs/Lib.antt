@@ -1,3 +1,4 @@
 pub mod Remembering
+pub mod Placing
 pub mod Covered
 pub mod Examples

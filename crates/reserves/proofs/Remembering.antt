@@ -10,7 +10,7 @@ use Rattle.reserve_tokens.specs.Numbers.{reserve_number}
 use Rattle.reserve_tokens.proofs.Numbers.{reserve-small}
 use Rattle.fundings.specs.Funded.{Relisted, remembered_at, state_fields, listed_from, facts_size}
 use Rattle.reserves.specs.States.{state_name}
-use Rattle.reserves.specs.Holding.{is_token, holds_token, Facts}
+use Rattle.reserves.specs.Holding.{is_token, holds_token, Facts, Numbered}
 
 -- where nothing is worked out yet, nothing is wrong
 pub facts-none : (file facts : List ℕ) → facts ≡ replicate facts_size not_yet → Facts file facts
@@ -67,6 +67,13 @@ module _ (file facts : List ℕ) (v : Facts file facts) (index number : ℕ) whe
         go : (b : Bool) → ltb index state_fields ≡ b → Facts file (cond b (set facts (1 + index) number) facts)
         go true h = written (ltb-true index state_fields h)
         go false h = v
+
+-- each of several numbers that are worked out may be written
+pub each-written : (file indices numbers : List ℕ) → Numbered file indices numbers → (j : ℕ) → j < length indices → (facts : List ℕ) → Facts file facts →
+    (number : ℕ) → number ≡ get_or numbers j 0 → (index : ℕ) → index ≡ get_or indices j 0 →
+    (last : List ℕ) → last ≡ cond (ltb index state_fields) (set facts (1 + index) number) facts → Facts file last
+each-written file indices numbers w j h facts v number e index f last g =
+    still-facts file facts v index number (state_name file index) refl (rw (e, f) (w.each j h)) last g
 
 -- a table that is listed anew is right, since it remembers the same
 pub facts-relisted : (file facts : List ℕ) → Facts file facts → (last : List ℕ) → Relisted file facts last → Facts file last

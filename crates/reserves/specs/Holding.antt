@@ -1,10 +1,12 @@
 -- Whether a state field holds the token that is asked for, and what is remembered of it.
-use Rattle.std.specs.Prelude.{ℕ, ◌*◌, ◌≤◌, ◌≡◌, Bool, ◌&&◌, List, length}
+use Rattle.std.specs.Prelude.{ℕ, ◌*◌, ◌≤◌, ◌≡◌, Bool, ◌&&◌, List, length, get_or, drop}
 use Rattle.laws.specs.Texts.{same_bytes, known}
-use Rattle.fields.specs.Field.{fields}
+use Rattle.fields.specs.Field.{fields, front}
+use Rattle.model.specs.Model.{name_of}
 use Rattle.tokens.specs.Numbers.{not_yet}
 use Rattle.reserve_tokens.specs.ReserveTokens.{reserve_token}
 use Rattle.reserve_tokens.specs.Numbers.{reserve_number}
+use Rattle.reserve_tokens.specs.Each.{Each}
 use Rattle.fundings.specs.Funded.{Funded, remembered_at}
 use Rattle.reserves.specs.States.{state_name}
 
@@ -21,6 +23,14 @@ holds_token file token i = is_token (reserve_token (fields file) (state_name fil
 pub record Facts (file facts : List ℕ) : Type 0 where
   pub funded : Funded file facts
   pub right : (i : ℕ) → (remembered_at facts i ≡ not_yet → ⊥) → remembered_at facts i ≡ reserve_number file (state_name file i)
+
+-- several state fields at once: a table has the place of each, whose number among all another has
+abbrev pub Placing : (file indices places : List ℕ) → Type 0
+Placing file indices places = Each (λ j place. name_of (front (drop place file)) ≡ state_name file (get_or indices j 0)) indices places
+
+-- or it has the number of the token that each holds
+abbrev pub Numbered : (file indices numbers : List ℕ) → Type 0
+Numbered file indices numbers = Each (λ j number. number ≡ reserve_number file (state_name file (get_or indices j 0))) indices numbers
 
 -- a file that passes question 1, with what is known of it, and a scratch table with a number for each three bytes of it
 pub record Known (file facts scratch : List ℕ) : Type 0 where

@@ -9,6 +9,7 @@ ghost use Rattle.guards.specs.Lowerings.{lowering_numbers};
 ghost use Rattle.reserves.specs.Holding.{Facts, Known};
 ghost use Rattle.reserves.specs.Covers.{index_of, asked_reserve, named_reserve, first_covering};
 
+use super::ahead::{Ahead, look_ahead};
 use super::holding::holds_token;
 use super::state::state_number;
 use entries::entry::Entry;
@@ -72,7 +73,12 @@ fn first_covering(
     ensures facts { Facts file.now facts.new }
 {
     let mut t = guards;
+    let mut ahead = Ahead {
+        left: guards.len(),
+        most: 1,
+    };
     while is_whole(t) {
+        ahead = look_ahead(file, t, amount, lowerings, ahead, facts, scratch);
         let name = guarded_field(part_of(t, 0));
         match named_reserve(file, name, token, lowerings, facts, scratch) {
             Reserve::Covers { index } => return Reserve::Covers { index: index },

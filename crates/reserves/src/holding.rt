@@ -1,20 +1,20 @@
 // SPDX-License-Identifier: Apache-2.0 OR MIT
 // Whether a state field holds a token that is asked for. A field's token is worked out once for all entries of a file and then
 // remembered, in a table that the caller lends, by its number; 1 where the field holds none.
-ghost use Rattle.std.specs.Prelude.{◌≡◌, cond, ◌+◌, ◌<◌, ltb, length, set, take, drop};
+ghost use Rattle.std.specs.Prelude.{◌≡◌, cond, ◌+◌, ◌<◌, ◌≤◌, ltb, length, set, take, drop};
 ghost use Rattle.tokens.specs.Place.{token_place};
 ghost use Rattle.fundings.specs.Funded.{state_fields, remembered_at};
 ghost use Rattle.fields.specs.Field.{fields};
 ghost use Rattle.reserve_tokens.specs.ReserveTokens.{reserve_token};
 ghost use Rattle.reserve_tokens.specs.Numbers.{reserve_number};
 ghost use Rattle.reserves.specs.States.{state_name};
-ghost use Rattle.reserves.specs.Holding.{is_token, holds_token, Facts, Known};
+ghost use Rattle.reserves.specs.Holding.{is_token, holds_token, Facts, Known, Placing, Numbered};
 
-use super::state::state_name;
+use super::state::{state_name, state_place};
 use fields::bytes::same_bytes;
 use fields::table::number_at;
 use fundings::facts::STATE_FIELDS;
-use reserve_tokens::reserve::reserve_number;
+use reserve_tokens::reserve::{FIELDS, reserve_number, reserve_numbers};
 use tokens::number::{NOT_YET, token_of};
 
 // Whether u is a known token and t.
@@ -41,7 +41,7 @@ fn remember(number: usize, facts: &mut [u16], index: usize) -> usize
 }
 
 // What is remembered of it.
-fn remembered(facts: &[u16], index: usize) -> usize
+pub fn remembered(facts: &[u16], index: usize) -> usize
     ensures { result ≡ remembered_at facts.now index }
 {
     if index < STATE_FIELDS {
@@ -59,6 +59,47 @@ fn work_out(file: &[u8], index: usize, facts: &mut [u16], scratch: &mut [u16]) -
     let number = reserve_number(file, state_name(file, index), facts, scratch);
     let written = remember(number, facts, index);
     number
+}
+
+// Lists the places of the state fields of these numbers.
+fn list_places(file: &[u8], indices: &[u16], places: &mut [u16])
+    requires short { length file.now ≤ 32768 }
+    requires room { length indices.now ≤ length places.old }
+    ensures { Placing file.now indices.now places.new }
+{
+    let mut j = 0;
+    while j < indices.len() {
+        places[j] = state_place(file, number_at(indices, j)) as u16;
+        j += 1;
+    }
+}
+
+// The numbers of the tokens that they hold.
+fn numbers_of(file: &[u8], indices: &[u16], facts: &[u16], scratch: &mut [u16]) -> [u16; FIELDS]
+    requires known { Known file.now facts.now scratch.old }
+    requires few { length indices.now ≤ 64 }
+    ensures { Numbered file.now indices.now result }
+{
+    let mut places = [0u16; FIELDS];
+    list_places(file, indices, &mut places);
+    reserve_numbers(file, &places[..indices.len()], facts, scratch)
+}
+
+// Works out the tokens of the state fields of these numbers together, and remembers them.
+pub fn work_out_each(file: &[u8], indices: &[u16], facts: &mut [u16], scratch: &mut [u16])
+    requires known { Known file.now facts.old scratch.old }
+    requires few { length indices.now ≤ 64 }
+    ensures { Known file.now facts.new scratch.new }
+{
+    if indices.len() == 0 {
+        return;
+    }
+    let numbers = numbers_of(file, indices, facts, scratch);
+    let mut j = 0;
+    while j < indices.len() {
+        let written = remember(number_at(&numbers, j), facts, number_at(indices, j));
+        j += 1;
+    }
 }
 
 // The same, by what is remembered of the field where something is.

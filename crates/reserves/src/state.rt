@@ -1,7 +1,8 @@
 // SPDX-License-Identifier: Apache-2.0 OR MIT
 // State fields by their names and by their numbers among all.
-ghost use Rattle.std.specs.Prelude.{◌≡◌};
-ghost use Rattle.fields.specs.Field.{fields};
+ghost use Rattle.std.specs.Prelude.{◌≡◌, ◌≤◌, length, drop};
+ghost use Rattle.fields.specs.Field.{fields, front};
+ghost use Rattle.model.specs.Model.{name_of};
 ghost use Rattle.reserves.specs.States.{state_name, state_number};
 
 use fields::bytes::same_bytes;
@@ -14,6 +15,14 @@ pub fn state_name(file: &[u8], index: usize) -> &[u8]
     ensures { result.now ≡ state_name file.now index }
 {
     name_of(nth_from(file, STATE, STATE, index))
+}
+
+// The place of the state field of that number; the end of the file where there is none.
+pub fn state_place(file: &[u8], index: usize) -> usize
+    ensures named { name_of (front (drop result file.now)) ≡ state_name file.now index }
+    ensures within { result ≤ length file.now }
+{
+    file.len() - nth_from(file, STATE, STATE, index).len()
 }
 
 // The number of the first state field of that name, counted from 1; 0 where none has it.

@@ -76,7 +76,9 @@ module _ {file token l : List ℕ} {amount : Field} {guards before facts lent sc
         go false p q = rw (← o, h) q
 
 abbrev pub invariant-loop-t : goal.invariant-loop-t
-invariant-loop-t l = Trying l.file l.token l.lowerings (front l.amount) l.guards l.initial.facts l.facts l.initial.scratch l.scratch l.t
+invariant-loop-t l =
+    (l.ahead.most ≤ 64)
+    × Trying l.file l.token l.lowerings (front l.amount) l.guards l.initial.facts l.facts l.initial.scratch l.scratch l.t
 
 abbrev pub decreases-loop-t : goal.decreases-loop-t
 decreases-loop-t l = length l.t
