@@ -22,9 +22,6 @@ pub record Trying (file token l : List ℕ) (amount : Field) (guards before fact
 pub shorter : (t y u : List ℕ) → whole t ≡ true → y ≡ after t → length u ≤ length y → length u < length t
 shorter t y u w e h = omega (arith, h, after_less t y w e)
 
-pub trying-all : (file token l : List ℕ) (amount : Field) (guards facts lent : List ℕ) → Known file facts lent → Trying file token l amount guards facts facts lent lent guards
-trying-all file token l amount guards facts lent v = record { known = v; wide = refl; same = refl; within = omega arith; left = refl }
-
 one-more : (file token l : List ℕ) (g : Field) (gs : List Field) (r : List ℕ) → r ≡ guarded_field (part 0 g) →
     first_covering file token l (g ∷ gs) ≡ cond (field_covers file token l r) (some (state_index (fields file) r)) (first_covering file token l gs)
 unfolding first_covering find index_in
