@@ -1,5 +1,5 @@
 -- The state field that covers a payout, by its number among all.
-use Rattle.std.specs.Prelude.{ℕ, Bool, cond, ◌&&◌, List, map}
+use Rattle.std.specs.Prelude.{ℕ, ◌-◌, ◌<◌, ◌≡◌, Bool, cond, not, ◌&&◌, List, [], ◌∷◌, map, eqb, length}
 use Rattle.std.proofs.Math.Option.{Option, none, some}
 use Rattle.laws.specs.Lists.{any, find}
 use Rattle.laws.specs.Texts.{same_bytes}
@@ -8,11 +8,12 @@ use Rattle.model.specs.Model.{state_names}
 use Rattle.entries.specs.Entered.{entry_of}
 use Rattle.reserve_tokens.specs.ReserveTokens.{reserve_token}
 use Rattle.guards.specs.Guards.{guarded_field}
+use Rattle.guards.specs.Bounding.{bounding_from}
 use Rattle.guards.specs.Lowerings.{lowered_in}
 use Rattle.guards.specs.Asked.{asked_token, asked_amount}
 use Rattle.reserves.specs.Reserves.{reserve_bounding_payout}
-use Rattle.reserves.specs.States.{state_index}
-use Rattle.reserves.specs.Holding.{is_token}
+use Rattle.reserves.specs.States.{state_index, state_number}
+use Rattle.reserves.specs.Holding.{is_token, holds_token}
 use Rattle.reserves.specs.declared.covering.Reserve.{Reserve}
 use Rattle.reserves.specs.declared.covering.Reserve.TheVariants.{Covers, Nothing}
 
@@ -36,11 +37,28 @@ unfoldable pub field_covers : (file token lowerings r : List ℕ) → Bool
 field_covers file token lowerings r =
     lowered_in file r lowerings && any (same_bytes r) (state_names (fields file)) && is_token (reserve_token (fields file) r) token
 
--- its number, if it does
-unfoldable pub named_reserve : (file token lowerings r : List ℕ) → Option ℕ
-named_reserve file token lowerings r = cond (field_covers file token lowerings r) (some (state_index (fields file) r)) none
-
--- that of the first of some guards whose state field does
+-- the number of the first of some guards' state fields that does
 unfoldable pub first_covering : (file token lowerings : List ℕ) → List Field → Option ℕ
 first_covering file token lowerings guards =
     index_in (fields file) (find (field_covers file token lowerings) (map (λ g. guarded_field (part 0 g)) guards))
+
+-- Numbers that are listed ahead, counted from 1; 0 where there is none
+
+-- that of the state field r, if one of the lowerings of a table lowers it
+unfoldable pub lowered_number : (file lowerings r : List ℕ) → ℕ
+lowered_number file lowerings r = cond (lowered_in file r lowerings) (state_number (fields file) r) 0
+
+-- the state field of a number holds the token
+unfoldable pub is_held : (file token : List ℕ) → ℕ → Bool
+is_held file token n = not (eqb n 0) && holds_token file token (n - 1)
+
+-- the first of some numbers whose state field does, counted from 0; where none does, one of those that are left
+unfoldable pub first_holding : (file token numbers : List ℕ) → Option ℕ → Option ℕ
+first_holding file token [] left = left
+first_holding file token (n ∷ ns) left = cond (is_held file token n) (some (n - 1)) (first_holding file token ns left)
+
+-- the guards that bound the amount are listed from one on by their numbers, as far as others that are left
+pub record Ahead (file lowerings : List ℕ) (amount : Field) (guards left numbers : List ℕ) : Type 0 where
+  pub fewer : length left < length guards
+  pub first : (token : List ℕ) → first_covering file token lowerings (bounding_from amount guards)
+      ≡ first_holding file token numbers (first_covering file token lowerings (bounding_from amount left))

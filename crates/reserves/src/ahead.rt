@@ -1,8 +1,10 @@
 // SPDX-License-Identifier: Apache-2.0 OR MIT
-// The state fields of the guards ahead of one whose turn it is, by which others may bound the amount too: their tokens are worked out
-// together, since an entry is then gone through once for all of them.
-ghost use Rattle.std.specs.Prelude.{◌≤◌, ◌<◌, length};
+// The state fields of the guards ahead of one whose turn it is: they are listed by their numbers, counted from 1, and the tokens of those
+// of which nothing is remembered yet are worked out together, since an entry is then gone through once for all of them.
+ghost use Rattle.std.specs.Prelude.{ℕ, ◌≡◌, true, ◌+◌, ◌≤◌, ◌<◌, length, get_or};
+ghost use Rattle.fields.specs.Field.{front, whole};
 ghost use Rattle.reserves.specs.Holding.{Known};
+ghost use Rattle.reserves.specs.Covers.{lowered_number, Ahead};
 
 use super::holding::{remembered, work_out_each};
 use super::state::state_number;
@@ -14,19 +16,47 @@ use guards::lowering::is_lowered;
 use reserve_tokens::reserve::FIELDS;
 use tokens::number::NOT_YET;
 
-// How far ahead the guards were gone through: how many bytes those behind take, and of how many state fields at most the tokens are
-// worked out next.
-#[derive(Clone, Copy)]
-pub struct Ahead {
-    pub left: usize,
-    pub most: usize,
+// The number of the state field of that name, if one of the lowerings of a table lowers it; else 0.
+fn lowered_number(file: &[u8], name: &[u8], lowerings: &[u16]) -> usize
+    ensures number { result ≡ lowered_number file.now lowerings.now name.now }
+    ensures within { result ≤ length file.now }
+{
+    if !is_lowered(file, lowerings, name) {
+        return 0;
+    }
+    state_number(file, name)
 }
 
-// What was listed of them: how many state fields, and how many bytes the guards behind take.
-#[derive(Clone, Copy)]
-pub struct Listed {
-    pub count: usize,
-    pub left: usize,
+// Lists the numbers of the state fields of so many guards that bound the amount, from the one at the front of guards on, and answers
+// those that are left.
+pub fn list_ahead<'a>(
+    file: &[u8],
+    guards: &'a [u8],
+    amount: &[u8],
+    lowerings: &[u16],
+    most: usize,
+    table: &mut [u16],
+) -> &'a [u8]
+    requires short { length file.now ≤ 32768 }
+    requires there { whole guards.now ≡ true }
+    requires some { 0 < most }
+    requires room { most ≤ length table.old }
+    requires unused { (i : ℕ) → get_or table.old i 0 ≡ 0 }
+    ensures { Ahead file.now lowerings.now (front amount.now) guards.now result.now table.new }
+{
+    let mut t = guards;
+    let mut n = 0;
+    while n < most {
+        if !is_whole(t) {
+            return t;
+        }
+        let name = guarded_field(part_of(t, 0));
+        table[n] = lowered_number(file, name, lowerings) as u16;
+        let u = first_guard(after_front(t), amount);
+        t = u;
+        n += 1;
+    }
+    t
 }
 
 // Whether a number is in a table.
@@ -41,23 +71,11 @@ fn is_in(table: &[u16], number: usize) -> bool {
     false
 }
 
-// Lists the number of the state field of that name, where a lowering of a table lowers it and nothing is remembered of it yet, each once,
-// and answers where the next one goes.
-fn list_field(
-    file: &[u8],
-    name: &[u8],
-    lowerings: &[u16],
-    facts: &[u16],
-    table: &mut [u16],
-    n: usize,
-) -> usize
+// Notes a state field of which nothing is remembered yet, counted from 0, if it is not noted, and answers where the next one goes.
+fn note_unknown(number: usize, facts: &[u16], table: &mut [u16], n: usize) -> usize
     requires { n < length table.old }
-    ensures { result ≤ length table.new }
+    ensures { result ≤ n + 1 }
 {
-    if !is_lowered(file, lowerings, name) {
-        return n;
-    }
-    let number = state_number(file, name);
     if (number == 0) | (STATE_FIELDS < number) {
         return n;
     }
@@ -71,66 +89,43 @@ fn list_field(
     n + 1
 }
 
-// Lists those of the guards that bound the amount, from the one at the front of guards on, as far as the table has room.
-fn list_fields(
-    file: &[u8],
-    guards: &[u8],
-    amount: &[u8],
-    lowerings: &[u16],
-    facts: &[u16],
-    table: &mut [u16],
-) -> Listed
-    ensures { result.count ≤ length table.new }
+// The same of all listed numbers; answers how many are noted.
+fn list_unknown(numbers: &[u16], facts: &[u16], table: &mut [u16]) -> usize
+    requires { length numbers.now ≤ length table.old }
+    ensures { result ≤ length table.new }
 {
-    let mut t = guards;
     let mut n = 0;
-    while is_whole(t) & (n < table.len()) {
-        let name = guarded_field(part_of(t, 0));
-        n = list_field(file, name, lowerings, facts, table, n);
-        let u = first_guard(after_front(t), amount);
-        t = u;
+    let mut i = 0;
+    while i < numbers.len() {
+        n = note_unknown(number_at(numbers, i), facts, table, n);
+        i += 1;
     }
-    Listed {
-        count: n,
-        left: t.len(),
-    }
+    n
+}
+
+// Works out and remembers their tokens.
+pub fn work_out_unknown(
+    file: &[u8],
+    numbers: &[u16; FIELDS],
+    facts: &mut [u16],
+    scratch: &mut [u16],
+)
+    requires { Known file.now facts.old scratch.old }
+    ensures { Known file.now facts.new scratch.new }
+{
+    let mut indices = [0u16; FIELDS];
+    let count = list_unknown(numbers, facts, &mut indices);
+    work_out_each(file, &indices[..count], facts, scratch);
 }
 
 // Twice as many, as far as a table has room for them.
-fn doubled(most: usize) -> usize
-    ensures { result ≤ 64 }
+pub fn doubled(most: usize) -> usize
+    requires { 0 < most }
+    ensures some { 0 < result }
+    ensures few { result ≤ 64 }
 {
     if most < 33 {
         return 2 * most;
     }
     FIELDS
-}
-
-// Goes further through the guards where the one at their front was not gone through, and works the tokens out of the state fields that
-// are listed. Each time there may be twice as many, so that most that are worked out are asked for.
-pub fn look_ahead(
-    file: &[u8],
-    guards: &[u8],
-    amount: &[u8],
-    lowerings: &[u16],
-    ahead: Ahead,
-    facts: &mut [u16],
-    scratch: &mut [u16],
-) -> Ahead
-    requires known { Known file.now facts.old scratch.old }
-    requires few { ahead.most ≤ 64 }
-    ensures known { Known file.now facts.new scratch.new }
-    ensures few { result.most ≤ 64 }
-{
-    if ahead.left < guards.len() {
-        return ahead;
-    }
-    let mut indices = [0u16; FIELDS];
-    let table = &mut indices[..ahead.most];
-    let listed = list_fields(file, guards, amount, lowerings, facts, table);
-    work_out_each(file, &indices[..listed.count], facts, scratch);
-    Ahead {
-        left: listed.left,
-        most: doubled(ahead.most),
-    }
 }

@@ -7,19 +7,21 @@ ghost use Rattle.walking.specs.Table.{placed_at};
 ghost use Rattle.guards.specs.Bounding.{bounding_from};
 ghost use Rattle.guards.specs.Lowerings.{lowering_numbers};
 ghost use Rattle.reserves.specs.Holding.{Facts, Known};
-ghost use Rattle.reserves.specs.Covers.{index_of, asked_reserve, named_reserve, first_covering};
+ghost use Rattle.reserves.specs.Covers.{index_of, asked_reserve, is_held, first_holding, first_covering};
+ghost use Rattle.std.proofs.Math.Option.{none};
 
-use super::ahead::{Ahead, look_ahead};
+use super::ahead::{doubled, list_ahead, work_out_unknown};
 use super::holding::holds_token;
-use super::state::state_number;
 use entries::entry::Entry;
 use fields::bytes::skip;
-use fields::front::{after_front, is_whole, part_of, parts_of};
+use fields::front::{is_whole, parts_of};
+use fields::table::number_at;
 use fundings::facts::list_facts;
 use guards::contained::contains_inflow;
-use guards::guarded::{first_guard, guarded_field};
-use guards::lowering::{is_lowered, list_lowerings};
+use guards::guarded::first_guard;
+use guards::lowering::list_lowerings;
 use guards::payout::{asked_amount, asked_token};
+use reserve_tokens::reserve::FIELDS;
 
 // Two numbers for each nine bytes of a file that passes question 1: a statement that lowers a state field takes as many at least.
 const LOWERINGS: usize = 7282;
@@ -31,34 +33,44 @@ pub enum Reserve {
     Nothing,
 }
 
-// The state field of that name, if one of the lowerings of a table lowers it and it holds the token.
-fn named_reserve(
+// Whether the state field of a number, counted from 1, holds the token.
+fn is_held(file: &[u8], number: usize, token: &[u8], facts: &mut [u16], scratch: &mut [u16]) -> bool
+    requires { Known file.now facts.old scratch.old }
+    ensures held { result ≡ is_held file.now token.now number }
+    ensures known { Known file.now facts.new scratch.new }
+{
+    if number == 0 {
+        return false;
+    }
+    holds_token(file, number - 1, token, facts, scratch)
+}
+
+// The first of some numbers whose state field does.
+fn first_holding(
     file: &[u8],
-    name: &[u8],
+    numbers: &[u16],
     token: &[u8],
-    lowerings: &[u16],
     facts: &mut [u16],
     scratch: &mut [u16],
 ) -> Reserve
     requires { Known file.now facts.old scratch.old }
-    ensures found { index_of result ≡ named_reserve file.now token.now lowerings.now name.now }
+    ensures found { index_of result ≡ first_holding file.now token.now numbers.now none }
     ensures known { Known file.now facts.new scratch.new }
 {
-    if !is_lowered(file, lowerings, name) {
-        return Reserve::Nothing;
+    let mut i = 0;
+    while i < numbers.len() {
+        let number = number_at(numbers, i);
+        if is_held(file, number, token, facts, scratch) {
+            return Reserve::Covers { index: number - 1 };
+        }
+        i += 1;
     }
-    let number = state_number(file, name);
-    if number == 0 {
-        return Reserve::Nothing;
-    }
-    if !holds_token(file, number - 1, token, facts, scratch) {
-        return Reserve::Nothing;
-    }
-    Reserve::Covers { index: number - 1 }
+    Reserve::Nothing
 }
 
 // That of the first guard that bounds the amount and whose state field covers it, from the one at the front of guards on. One
-// whose field does not cover does not stop the search.
+// whose field does not cover does not stop the search. Each time twice as many guards are listed ahead, so that of most fields whose
+// tokens are worked out they are asked for.
 fn first_covering(
     file: &[u8],
     guards: &[u8],
@@ -73,19 +85,17 @@ fn first_covering(
     ensures facts { Facts file.now facts.new }
 {
     let mut t = guards;
-    let mut ahead = Ahead {
-        left: guards.len(),
-        most: 1,
-    };
+    let mut most = 1;
     while is_whole(t) {
-        ahead = look_ahead(file, t, amount, lowerings, ahead, facts, scratch);
-        let name = guarded_field(part_of(t, 0));
-        match named_reserve(file, name, token, lowerings, facts, scratch) {
+        let mut numbers = [0u16; FIELDS];
+        let u = list_ahead(file, t, amount, lowerings, most, &mut numbers);
+        work_out_unknown(file, &numbers, facts, scratch);
+        match first_holding(file, &numbers, token, facts, scratch) {
             Reserve::Covers { index } => return Reserve::Covers { index: index },
             Reserve::Nothing => {}
         }
-        let u = first_guard(after_front(t), amount);
         t = u;
+        most = doubled(most);
     }
     Reserve::Nothing
 }

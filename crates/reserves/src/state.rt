@@ -27,7 +27,8 @@ pub fn state_place(file: &[u8], index: usize) -> usize
 
 // The number of the first state field of that name, counted from 1; 0 where none has it.
 pub fn state_number(file: &[u8], name: &[u8]) -> usize
-    ensures { result ≡ state_number (fields file.now) name.now }
+    ensures counted { result ≡ state_number (fields file.now) name.now }
+    ensures within { result ≤ length file.now }
 {
     let mut t = first_from(file, STATE, STATE);
     let mut n = 1;

@@ -2,14 +2,17 @@
 use Rattle.std.proofs.Common.{rules}
 use Rattle.laws.proofs.Told.{told}
 use Rattle.fields.proofs.Rows.{from_less}
-use Rattle.reserves.proofs.state.state_number.Invariants.{none_passed, none_left, found, fits, one_more}
+use Rattle.reserves.proofs.state.state_number.Invariants.{none_passed, none_left, within, found, fits, one_more}
 use Rattle.reserves.proofs.state.state_number.Goals as goal
 
 pub loop-t-init : goal.loop-t-init
 loop-t-init c = search none_passed
 
-pub returns-then-same_bytes : goal.returns-then-same_bytes
-returns-then-same_bytes c = search found
+pub returns-then-same_bytes-clause-counted : goal.returns-then-same_bytes-clause-counted
+returns-then-same_bytes-clause-counted c = search found
+
+pub returns-then-same_bytes-clause-within : goal.returns-then-same_bytes-clause-within
+returns-then-same_bytes-clause-within c = search (within, told)
 
 pub overflow_add-n : goal.overflow_add-n
 overflow_add-n c = search (fits, rules)
@@ -20,5 +23,5 @@ loop-t-smaller c = search (from_less, told)
 pub loop-t-preserved : goal.loop-t-preserved
 loop-t-preserved c = search one_more
 
-pub returns : goal.returns
-returns c = search (none_left, told)
+pub returns-clause-counted : goal.returns-clause-counted
+returns-clause-counted c = search (none_left, told)

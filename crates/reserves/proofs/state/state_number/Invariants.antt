@@ -40,6 +40,10 @@ module _ (file name : List ℕ) where
     unfolding numbered any
     none_left w = rw w at i.left
 
+    -- a state field takes more bytes than one
+    pub within : whole t ≡ true → n ≤ length file
+    within w = omega (arith, i.room, leb-true (3 + length_of t) (length t) w)
+
     module _ (v : Bool) (o : v ≡ whole t) (w : v ≡ true) (x : List ℕ) (f : x ≡ name_of (front t)) (b : Bool) (g : b ≡ same_bytes name x) where
       abbrev pub behind : List (List ℕ)
       behind = map name_of (fields_from State State (fields (after t)))

@@ -1,0 +1,199 @@
+-- The state fields that guards name, by their numbers: the first that holds the token is the first that covers.
+use Rattle.std.proofs.Common.{ℕ, zero, suc, ◌+◌, ◌-◌, ◌≤◌, ◌<◌, ◌≡◌, refl, sym, ap, ◌∙◌, Bool, true, false, not, cond, ◌&&◌, List, [], ◌∷◌, map, arith, get_or, set, length, length-set, get_or-set_other, eqb, ne_eqb, drop, drop_of_length-le}
+use mathlib.Core.Option.{Option, none, some}
+use Rattle.laws.specs.Texts.{same_bytes}
+use Rattle.laws.specs.Lists.{any, find, position}
+use Rattle.laws.proofs.Texts.{bytes-equal}
+use Rattle.laws.proofs.Slices.{drop-step}
+use Rattle.fields.specs.Field.{Field, fields, whole, after, front, part}
+use Rattle.fields.proofs.Reading.{after_less}
+use Rattle.model.specs.Model.{state_names}
+use Rattle.reserve_tokens.specs.ReserveTokens.{reserve_token}
+use Rattle.guards.specs.Guards.{guarded_field}
+use Rattle.guards.specs.Bounding.{bounding, bounding_from}
+use Rattle.guards.specs.Lowerings.{lowered_in}
+use Rattle.reserves.specs.States.{state_name, state_index, state_number}
+use Rattle.reserves.specs.Holding.{is_token, holds_token}
+use Rattle.reserves.specs.Covers.{index_in, field_covers, first_covering, lowered_number, is_held, first_holding, Ahead}
+
+-- One guard
+
+named-there : (r : List ℕ) (l : List (List ℕ)) → any (same_bytes r) l ≡ true → get_or l (position (same_bytes r) l) [] ≡ r
+unfolding any position
+named-there r [] h = cc
+named-there r (x ∷ l) h = go (same_bytes r x) refl (named-there r l)
+  where
+    go : (k : Bool) → same_bytes r x ≡ k → (any (same_bytes r) l ≡ true → get_or l (position (same_bytes r) l) [] ≡ r) →
+        get_or (x ∷ l) (cond (same_bytes r x) zero (suc (position (same_bytes r) l))) [] ≡ r
+    go true e f = rw e (sym (bytes-equal r x e))
+    go false e f = rw e (f (rw e at h))
+
+module _ (file token l : List ℕ) where
+  abbrev index : List ℕ → ℕ
+  index r = state_index (fields file) r
+
+  abbrev holds : List ℕ → Bool
+  holds r = is_token (reserve_token (fields file) r) token
+
+  own-token : (r : List ℕ) → any (same_bytes r) (state_names (fields file)) ≡ true → holds_token file token (index r) ≡ holds r
+  unfolding holds_token state_name state_index
+  own-token r h = rw (named-there r (state_names (fields file)) h)
+
+  -- a field covers where it is lowered and the one of its number holds the token
+  by-number : (r : List ℕ) (left : Option ℕ) →
+      cond (field_covers file token l r) (some (index r)) left ≡ first_holding file token (lowered_number file l r ∷ []) left
+  unfolding field_covers first_holding is_held lowered_number state_number
+  by-number r left = go (lowered_in file r l) (any (same_bytes r) (state_names (fields file))) (own-token r)
+    where
+      go : (i j : Bool) → (j ≡ true → holds_token file token (index r) ≡ holds r) →
+          cond (i && j && holds r) (some (index r)) left
+          ≡ cond (not (eqb (cond i (cond j (1 + index r) 0) 0) 0) && holds_token file token (cond i (cond j (1 + index r) 0) 0 - 1))
+          (some (cond i (cond j (1 + index r) 0) 0 - 1)) left
+      go true true e =
+          let z : 1 + index r - 1 ≡ index r = omega arith in
+          rw (ne_eqb (1 + index r) 0 (λ o. omega (arith, o)), z, e refl)
+      go true false e = refl
+      go false j e = refl
+
+  one-more : (g : Field) (gs : List Field) (r : List ℕ) → r ≡ guarded_field (part 0 g) →
+      first_covering file token l (g ∷ gs) ≡ cond (field_covers file token l r) (some (state_index (fields file) r)) (first_covering file token l gs)
+  unfolding first_covering find index_in
+  one-more g gs r e = rw (← e) (go (field_covers file token l r))
+    where
+      go : (k : Bool) → index_in (fields file) (cond k (some r) (find (field_covers file token l) (map (λ g. guarded_field (part 0 g)) gs)))
+          ≡ cond k (some (state_index (fields file) r)) (index_in (fields file) (find (field_covers file token l) (map (λ g. guarded_field (part 0 g)) gs)))
+      go true = refl
+      go false = refl
+
+-- Numbers in a table
+
+module _ (file token : List ℕ) where
+  -- 0 is that of no field
+  pub holding-none : (ns : List ℕ) → ((i : ℕ) → get_or ns i 0 ≡ 0) → (left : Option ℕ) → first_holding file token ns left ≡ left
+  unfolding first_holding is_held
+  holding-none [] u left = refl
+  holding-none (n ∷ ns) u left = rw (u 0) (holding-none ns (λ i. u (suc i)) left)
+
+  -- a number that is written behind the others comes after them
+  holding-set : (ns : List ℕ) (n : ℕ) → n < length ns → ((i : ℕ) → n ≤ i → get_or ns i 0 ≡ 0) → (k : ℕ) (left : Option ℕ) →
+      first_holding file token (set ns n k) left ≡ first_holding file token ns (first_holding file token (k ∷ []) left)
+  unfolding first_holding
+  holding-set [] n h u k left = absurd (omega (arith, h))
+  holding-set (x ∷ ns) zero h u k left =
+      ap (λ o. cond (is_held file token k) (some (k - 1)) o) (holding-none ns (λ i. u (suc i) (omega arith)) left)
+      ∙ sym (holding-none (x ∷ ns) (λ i. u i (omega arith)) (first_holding file token (k ∷ []) left))
+  holding-set (x ∷ ns) (suc n) h u k left = rw (holding-set ns n (omega (arith, h)) (λ i l. u (suc i) (omega (arith, l))) k left)
+
+  -- the first that holds it is found before those that are left
+  holding-or : (ns : List ℕ) (left : Option ℕ) → first_holding file token ns left ≡ elim (first_holding file token ns none) [ none ↦ left | some i ↦ some i ]
+  unfolding first_holding
+  holding-or [] left = refl
+  holding-or (n ∷ ns) left = go (is_held file token n) (holding-or ns left)
+    where
+      go : (k : Bool) → first_holding file token ns left ≡ elim (first_holding file token ns none) [ none ↦ left | some i ↦ some i ] →
+          cond k (some (n - 1)) (first_holding file token ns left)
+          ≡ elim (cond k (some (n - 1)) (first_holding file token ns none)) [ none ↦ left | some i ↦ some i ]
+      go true e = refl
+      go false e = e
+
+-- Guard by guard: n are listed
+
+pub record Listing (file l : List ℕ) (amount : Field) (guards lent t table : List ℕ) (n : ℕ) : Type 0 where
+  pub wide : length table ≡ length lent
+  pub none : n ≡ 0 → t ≡ guards
+  pub fewer : 0 < n → length t < length guards
+  pub unused : (i : ℕ) → n ≤ i → get_or table i 0 ≡ 0
+  pub first : (token : List ℕ) → first_covering file token l (bounding_from amount guards)
+      ≡ first_holding file token table (first_covering file token l (bounding_from amount t))
+
+module _ (file l : List ℕ) (amount : Field) (guards lent : List ℕ) where
+  pub listing-none : ((i : ℕ) → get_or lent i 0 ≡ 0) → Listing file l amount guards lent guards lent 0
+  listing-none u = record {
+    wide = refl;
+    none = λ e. refl;
+    fewer = λ h. absurd (omega (arith, h));
+    unused = λ i h. u i;
+    first = λ token. sym (holding-none file token lent u (first_covering file token l (bounding_from amount guards)));
+  }
+
+  module _ (t table : List ℕ) (n : ℕ) (v : Listing file l amount guards lent t table n) where
+    shorter : (y u : List ℕ) → whole t ≡ true → y ≡ after t → length u ≤ length y → length u < length guards
+    shorter y u w e h = go n v.none v.fewer
+      where
+        less : length u < length t
+        less = omega (arith, h, after_less t y w e)
+
+        go : (n : ℕ) → (n ≡ 0 → t ≡ guards) → (0 < n → length t < length guards) → length u < length guards
+        go zero a b = rw (← a refl) less
+        go (suc n) a b = omega (arith, less, b (omega arith))
+
+    pub listing-on : n < length table → whole t ≡ true → (x : List ℕ) → front x ≡ part 0 (front t) → (r : List ℕ) → r ≡ guarded_field (front x) →
+        (number : ℕ) → number ≡ lowered_number file l r → (y : List ℕ) → y ≡ after t → (u : List ℕ) → bounding amount (fields y) ≡ bounding_from amount u →
+        length u ≤ length y → Listing file l amount guards lent u (set table n number) (n + 1)
+    listing-on h w x a r b number f y e u o m = record {
+      wide = length-set table n number ∙ v.wide;
+      none = λ z. absurd (omega (arith, z));
+      fewer = λ z. shorter y u w e m;
+      unused = λ i g. get_or-set_other table n i number 0 (λ z. absurd (omega (arith, g, z))) ∙ v.unused i (omega (arith, g));
+      first = λ token.
+          v.first token
+          ∙ ap (first_holding file token table) (here token)
+          ∙ sym (holding-set file token table n h v.unused number (first_covering file token l (bounding_from amount u)));
+    }
+      where
+        here : (token : List ℕ) → first_covering file token l (bounding_from amount t) ≡ first_holding file token (number ∷ []) (first_covering file token l (bounding_from amount u))
+        here token =
+            let z : first_covering file token l (bounding_from amount t)
+            ≡ cond (field_covers file token l r) (some (state_index (fields file) r)) (first_covering file token l (bounding amount (fields (after t)))) =
+            rw w (one-more file token l (front t) (bounding amount (fields (after t))) r (b ∙ rw a refl)) in
+            z ∙ rw (f, ← o, e) (by-number file token l r (first_covering file token l (bounding amount (fields (after t)))))
+
+-- Number by number
+
+-- none of those that were passed holds the token
+pub record Holding (file token numbers : List ℕ) (i : ℕ) : Type 0 where
+  pub within : i ≤ length numbers
+  pub left : first_holding file token (drop i numbers) none ≡ first_holding file token numbers none
+
+pub holding-all : (file token numbers : List ℕ) → Holding file token numbers 0
+holding-all file token numbers = record { within = omega arith; left = refl }
+
+module _ (file token numbers : List ℕ) (i : ℕ) (v : Holding file token numbers i) where
+  pub holding-end : length numbers ≤ i → none ≡ first_holding file token numbers none
+  unfolding first_holding
+  holding-end h = rw (drop_of_length-le numbers {i = i} h) at v.left
+
+  module _ (h : i < length numbers) (n : ℕ) (e : n ≡ get_or numbers i 0) where
+    here : cond (is_held file token n) (some (n - 1)) (first_holding file token (drop (i + 1) numbers) none) ≡ first_holding file token numbers none
+    unfolding first_holding
+    here = rw (drop-step numbers i h, ← e) at v.left
+
+    pub holding-found : is_held file token n ≡ true → some (n - 1) ≡ first_holding file token numbers none
+    holding-found g = rw g at here
+
+    pub holding-on : is_held file token n ≡ false → Holding file token numbers (i + 1)
+    holding-on g = record { within = omega arith; left = rw g at here }
+
+-- 0 holds none
+pub held-there : (file token : List ℕ) (n : ℕ) → is_held file token n ≡ true → 1 ≤ n
+unfolding is_held
+held-there file token zero e = cc
+held-there file token (suc n) e = omega arith
+
+-- Some guards, and then those that are left
+
+module _ (file l : List ℕ) (amount : Field) (guards left numbers : List ℕ) (v : Ahead file l amount guards left numbers) (token : List ℕ) where
+  abbrev all : Option ℕ
+  all = first_covering file token l (bounding_from amount guards)
+
+  abbrev rest : Option ℕ
+  rest = first_covering file token l (bounding_from amount left)
+
+  by-first : elim (first_holding file token numbers none) [ none ↦ rest | some i ↦ some i ] ≡ all
+  by-first = sym (v.first token ∙ holding-or file token numbers rest)
+
+  pub some-covers : (i : ℕ) → some i ≡ first_holding file token numbers none → some i ≡ all
+  some-covers i e = rw (← e) at by-first
+
+  pub none-covers : none ≡ first_holding file token numbers none → rest ≡ all
+  none-covers e = rw (← e) at by-first

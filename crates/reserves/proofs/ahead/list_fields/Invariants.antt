@@ -1,9 +1,0 @@
--- No more are listed than the table has room for.
-use Rattle.std.proofs.Common.{◌≤◌, length}
-use Rattle.reserves.proofs.ahead.list_fields.Given as goal
-
-abbrev pub invariant-loop-n : goal.invariant-loop-n
-invariant-loop-n l = l.n ≤ length l.table
-
-abbrev pub decreases-loop-n : goal.decreases-loop-n
-decreases-loop-n l = length l.t
