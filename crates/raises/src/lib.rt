@@ -2,5 +2,6 @@
 #![tactic(auto)]
 
 pub mod assignment;
+pub mod name;
 pub mod raise;
 pub mod zero;

@@ -7,9 +7,8 @@ ghost use Rattle.raises.specs.Raises.{is_zero, defaults, genesis_values, starts_
 ghost use Rattle.raises.specs.Raising.{zero_digit, zero_digits, default_passes, genesis_passes};
 
 use super::assignment::assigns;
-use fields::bytes::same_bytes;
+use super::name::is_named;
 use fields::front::{after_front, first_from, is_whole, part_of, tag_of, text_of};
-use model::name_of;
 use tags::{GENESIS, INTEGER, STATE};
 use walking::peel::peel;
 use walking::shape::is_present;
@@ -49,7 +48,7 @@ pub fn is_zero(s: &[u8]) -> bool
 fn default_passes(name: &[u8], s: &[u8]) -> bool
     ensures { result ≡ default_passes name.now (front s.now) }
 {
-    if !same_bytes(name_of(s), name) {
+    if !is_named(s, name) {
         return true;
     }
     let default = part_of(s, 2);

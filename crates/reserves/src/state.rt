@@ -5,9 +5,9 @@ ghost use Rattle.fields.specs.Field.{fields, front};
 ghost use Rattle.model.specs.Model.{name_of};
 ghost use Rattle.reserves.specs.States.{state_name, state_number};
 
-use fields::bytes::same_bytes;
 use fields::front::{after_front, first_from, is_whole, nth_from};
 use model::name_of;
+use raises::name::is_named;
 use tags::STATE;
 
 // The name of the state field of that number; no bytes where there is none.
@@ -33,7 +33,7 @@ pub fn state_number(file: &[u8], name: &[u8]) -> usize
     let mut t = first_from(file, STATE, STATE);
     let mut n = 1;
     while is_whole(t) {
-        if same_bytes(name, name_of(t)) {
+        if is_named(t, name) {
             return n;
         }
         let u = first_from(after_front(t), STATE, STATE);

@@ -8,11 +8,11 @@ use Rattle.reserves.proofs.state.state_number.Goals as goal
 pub loop-t-init : goal.loop-t-init
 loop-t-init c = search none_passed
 
-pub returns-then-same_bytes-clause-counted : goal.returns-then-same_bytes-clause-counted
-returns-then-same_bytes-clause-counted c = search found
+pub returns-then-is_named-clause-counted : goal.returns-then-is_named-clause-counted
+returns-then-is_named-clause-counted c = search found
 
-pub returns-then-same_bytes-clause-within : goal.returns-then-same_bytes-clause-within
-returns-then-same_bytes-clause-within c = search (within, told)
+pub returns-then-is_named-clause-within : goal.returns-then-is_named-clause-within
+returns-then-is_named-clause-within c = search (within, told)
 
 pub overflow_add-n : goal.overflow_add-n
 overflow_add-n c = search (fits, rules)

@@ -44,15 +44,15 @@ module _ (file name : List ℕ) where
     pub within : whole t ≡ true → n ≤ length file
     within w = omega (arith, i.room, leb-true (3 + length_of t) (length t) w)
 
-    module _ (v : Bool) (o : v ≡ whole t) (w : v ≡ true) (x : List ℕ) (f : x ≡ name_of (front t)) (b : Bool) (g : b ≡ same_bytes name x) where
+    module _ (v : Bool) (o : v ≡ whole t) (w : v ≡ true) (b : Bool) (g : b ≡ same_bytes name (name_of (front t))) where
       abbrev pub behind : List (List ℕ)
       behind = map name_of (fields_from State State (fields (after t)))
 
-      pub here : numbered name n (x ∷ behind) ≡ state_number (fields file) name
-      here = rw f (rw (sym o ∙ w) at i.left)
+      pub here : numbered name n (name_of (front t) ∷ behind) ≡ state_number (fields file) name
+      here = rw (sym o ∙ w) at i.left
 
       pub found : b ≡ true → n ≡ state_number (fields file) name
-      found h = sym (numbered-here name n x behind (sym g ∙ h)) ∙ here
+      found h = sym (numbered-here name n (name_of (front t)) behind (sym g ∙ h)) ∙ here
 
       pub fits : length file < 2 ^ 64 → Fits w64 (n + 1)
       fits l = omega (arith, i.room, leb-true (3 + length_of t) (length t) (sym o ∙ w))
@@ -60,7 +60,7 @@ module _ (file name : List ℕ) where
       pub one_more : b ≡ false → (y u : List ℕ) → y ≡ after t → u ≡ from State State y → Passed file name u (n + 1)
       one_more h y u e k = record {
         room = omega (arith, i.room, from_less State State t y u (sym o ∙ w) e k);
-        left = rw (k, ← from_row State State y, e) (sym (numbered_next name n x behind (sym g ∙ h)) ∙ here);
+        left = rw (k, ← from_row State State y, e) (sym (numbered_next name n (name_of (front t)) behind (sym g ∙ h)) ∙ here);
       }
 
 abbrev pub invariant-loop-t : goal.invariant-loop-t
