@@ -1,6 +1,6 @@
 // SPDX-License-Identifier: Apache-2.0 OR MIT
-// The state fields of the guards ahead of one whose turn it is: they are listed by their numbers, counted from 1, and the tokens of those
-// of which nothing is remembered yet are worked out together, since an entry is then gone through once for all of them.
+// The state fields of the guards ahead of one whose turn it is: they are listed by their numbers, counted from 1, and the tokens of
+// those of which nothing is remembered yet are worked out together, since an entry is then gone through once for all of them.
 ghost use Rattle.std.specs.Prelude.{ℕ, ◌≡◌, true, ◌+◌, ◌≤◌, ◌<◌, length, get_or};
 ghost use Rattle.fields.specs.Field.{front, whole};
 ghost use Rattle.reserves.specs.Holding.{Known};

@@ -85,13 +85,14 @@ fn numbers_of(file: &[u8], indices: &[u16], facts: &[u16], scratch: &mut [u16]) 
     reserve_numbers(file, &places[..indices.len()], facts, scratch)
 }
 
-// Works out the tokens of the state fields of these numbers together, and remembers them.
+// Works out the tokens of the state fields of these numbers together, and remembers them. One alone is worked out where it is asked
+// for: then only the entries that raise it are gone through.
 pub fn work_out_each(file: &[u8], indices: &[u16], facts: &mut [u16], scratch: &mut [u16])
     requires known { Known file.now facts.old scratch.old }
     requires few { length indices.now ≤ 64 }
     ensures { Known file.now facts.new scratch.new }
 {
-    if indices.len() == 0 {
+    if indices.len() < 2 {
         return;
     }
     let numbers = numbers_of(file, indices, facts, scratch);
