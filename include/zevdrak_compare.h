@@ -3,7 +3,7 @@
    none of them. They are in the same library as those of zevdrak.h, and what is said there of slices holds here too.
 
    Limits. zevdrak_reserve_bounding_payout asks the questions about the file and the entry first, as zevdrak_verdict does, and took
-   at most 108 KB of stack. The others ask none, since they are compared on parts of files too, and go into what they are given as
+   at most 116 KB of stack. The others ask none, since they are compared on parts of files too, and go into what they are given as
    deep as it is nested. Each level takes stack: 48 bytes in zevdrak_expr_eq and zevdrak_bounded_by_backing, 64 in the three about
    tokens. A stack that is too small for it overflows, and that ends the process. So ask zevdrak_check_file first: in a file that it
    passes expressions are at most 32 deep, and none of the others took more than 80 KB. Without asking, lend a stack of 2 MB: the

@@ -4,7 +4,7 @@
 //! include/zevdrak_compare.h.
 //!
 //! [`reserve_bounding_payout`] asks the questions about the file and the entry
-//! first, and took at most 108 KB of stack. The others ask none, since they are
+//! first, and took at most 116 KB of stack. The others ask none, since they are
 //! compared on parts of files too, and go into what they are given as deep as it
 //! is nested: a level takes 48 bytes in [`expr_eq`] and [`bounded_by_backing`], 64
 //! in the three about tokens. So bytes that are nested thousands deep overflow a
