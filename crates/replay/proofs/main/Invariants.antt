@@ -3,4 +3,4 @@ use Rattle.std.proofs.Common.{◌≤◌}
 use Rattle.replay.proofs.main.Given as goal
 
 abbrev pub invariant-loop-record : goal.invariant-loop-record
-invariant-loop-record l = (l.differences ≤ l.record-counter) × (l.count ≤ l.record-counter)
+invariant-loop-record l = (l.differences ≤ l.«record») × (l.count ≤ l.«record»)
