@@ -1,5 +1,5 @@
 -- The token that funds a map is that of its number, and shows the bytes where the number says that it stands.
-use Rattle.std.proofs.Common.{ℕ, ◌≡◌, refl, ◌∙◌, Bool, true, false, cond, List, [], ◌∷◌, length}
+use Rattle.std.proofs.Common.{ℕ, ◌≤◌, ◌<◌, ◌≡◌, refl, ◌∙◌, Bool, true, false, cond, List, [], ◌∷◌, length}
 use mathlib.Core.List.{flat_map}
 use lib.Seq.{take-length}
 use Rattle.laws.specs.Lists.{filter}
@@ -12,7 +12,7 @@ use Rattle.walking.specs.Walking.{without_places}
 use Rattle.tokens.specs.Tokens.{tokens_named}
 use Rattle.tokens.specs.Numbers.{token_of, tokens_number}
 use Rattle.tokens.specs.Place.{token_place}
-use Rattle.tokens.proofs.Joining.{Means, means-all, means-token}
+use Rattle.tokens.proofs.Joining.{Means, means-all, means-token, means-small}
 use Rattle.tokens.proofs.Numbers.{entry-means}
 use Rattle.tokens.proofs.Shown.{Shows, token-shows}
 use Rattle.fundings.specs.FundingTokens.{funds, ledger_funding_tokens, funding_token}
@@ -65,3 +65,7 @@ module _ (file m : List ℕ) where
 
     pub funding-there : Shows file (token_place file (funding_number file m)) r
     funding-there = token-shows file k r f (funding_number file m) e
+
+  -- and a number of a file that passes question 1 is small, since it stands for tokens of the file
+  pub funding-small : length file ≤ 32768 → (k : ℕ) → k ≡ funding_number file m → k < 65536
+  funding-small h k e = means-small file h k (ledger_funding_tokens (fields file) m) (rw e funding-means)

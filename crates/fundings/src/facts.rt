@@ -1,7 +1,7 @@
 // SPDX-License-Identifier: Apache-2.0 OR MIT
 // What is the same for all entries of a file, in one lent table: how many numbers are listed of the maps that some call funds; then
 // one for each state field, of its token; and behind them what is listed.
-ghost use Rattle.std.specs.Prelude.{◌≡◌, ◌*◌, ◌≤◌, length, take, drop, replicate};
+ghost use Rattle.std.specs.Prelude.{◌≡◌, ◌*◌, ◌≤◌, ◌<◌, length, take, drop, replicate};
 ghost use Rattle.fields.specs.Field.{fields};
 ghost use Rattle.tokens.specs.Numbers.{not_yet};
 ghost use Rattle.tokens.specs.Place.{token_place};
@@ -38,7 +38,8 @@ pub fn nothing_known() -> [u16; FACTS]
 pub fn funding_number(file: &[u8], map: &[u8], facts: &[u16]) -> usize
     requires short { length file.now ≤ 32768 }
     requires funded { Funded file.now facts.now }
-    ensures { result ≡ funding_number file.now map.now }
+    ensures reads { result ≡ funding_number file.now map.now }
+    ensures small { result < 65536 }
 {
     let count = number_at(facts, 0);
     if count == NOT_YET {

@@ -1,6 +1,6 @@
 // SPDX-License-Identifier: Apache-2.0 OR MIT
 // The token that funds a map, read from the whole file. It is a part of the file, and no token is the empty part.
-ghost use Rattle.std.specs.Prelude.{◌≡◌, cond, ◌*◌, ◌≤◌, length, take, drop};
+ghost use Rattle.std.specs.Prelude.{◌≡◌, cond, ◌*◌, ◌≤◌, ◌<◌, length, take, drop};
 ghost use Rattle.fields.specs.Field.{fields, front};
 ghost use Rattle.walking.specs.Table.{placed_at};
 ghost use Rattle.tokens.specs.Numbers.{joined, tokens_number, Standing};
@@ -30,7 +30,8 @@ fn joined_with(file: &[u8], map: &[u8], found: usize, place: usize, table: &mut 
 // The set of the tokens named by the entries that fund the map. The search ends where two differ.
 pub fn ledger_funding_number(file: &[u8], map: &[u8]) -> usize
     requires { length file.now ≤ 32768 }
-    ensures { result ≡ funding_number file.now map.now }
+    ensures reads { result ≡ funding_number file.now map.now }
+    ensures small { result < 65536 }
 {
     let mut table = [0u16; MOST_FIELDS];
     let mut found = 0;

@@ -125,6 +125,16 @@ agreed-small file h k (n ∷ ns) l = go (bars (token_of file k) (token_of file n
     go true e f = omega arith
     go false e f = f (found-known file h n (not-barred (token_of file k) (token_of file n) e)).small
 
+-- and it is never 0
+pub agreed-some : (file : List ℕ) → length file ≤ 32768 → (k : ℕ) (ns : List ℕ) → 0 < k → 0 < agreed file k ns
+unfolding agreed
+agreed-some file h k [] l = l
+agreed-some file h k (n ∷ ns) l = go (bars (token_of file k) (token_of file n)) refl (agreed-some file h n ns)
+  where
+    go : (b : Bool) → bars (token_of file k) (token_of file n) ≡ b → (0 < n → 0 < agreed file n ns) → 0 < cond b 1 (agreed file n ns)
+    go true e f = omega arith
+    go false e f = f (found-known file h n (not-barred (token_of file k) (token_of file n) e)).some
+
 -- what the code tests
 module _ (file : List ℕ) (found k : ℕ) where
   pub unknown-bars : (t : List ℕ) → t ≡ token_of file k → length t ≡ 0 → true ≡ bars (token_of file found) (token_of file k)

@@ -26,7 +26,7 @@ use Rattle.fundings.proofs.Shown.{entries-stand, funding-token}
 use Rattle.raises.specs.Raises.{starts_at_zero, raises}
 use Rattle.reserve_tokens.specs.ReserveTokens.{credited, guard_token, guard_tokens, only, debit_token, raise_token, raise_tokens, reserve_token}
 use Rattle.reserve_tokens.specs.Numbers.{guard_number, guard_numbers, only_number, debit_number, raise_number, numbers_in, agreed, reserve_number}
-use Rattle.reserve_tokens.proofs.Held.{agreed-token, agreed-small, token-none-of}
+use Rattle.reserve_tokens.proofs.Held.{agreed-token, agreed-small, agreed-some, token-none-of}
 
 module _ (file : List ℕ) where
   -- Guards
@@ -161,3 +161,9 @@ module _ (file : List ℕ) where
     reserve-small h =
         chosen (λ k. k < 65536) (starts_at_zero (fields file) r)
         (agreed-small file h 1 (flat_map (numbers_in file r) (entries (fields file))) (omega arith)) (omega arith)
+
+    pub reserve-some : length file ≤ 32768 → 0 < reserve_number file r
+    unfolding reserve_number
+    reserve-some h =
+        chosen (λ k. 0 < k) (starts_at_zero (fields file) r)
+        (agreed-some file h 1 (flat_map (numbers_in file r) (entries (fields file))) (omega arith)) (omega arith)

@@ -1,7 +1,7 @@
 // SPDX-License-Identifier: Apache-2.0 OR MIT
 // The token that a state field holds: all raises of it, in all entries, have one token. It is known by its number, so that it can
 // be remembered for the whole file.
-ghost use Rattle.std.specs.Prelude.{◌≡◌, ◌*◌, ◌≤◌, length, take, drop};
+ghost use Rattle.std.specs.Prelude.{◌≡◌, ◌*◌, ◌≤◌, ◌<◌, length, take, drop};
 ghost use Rattle.fields.specs.Field.{fields};
 ghost use Rattle.walking.specs.Table.{placed_at};
 ghost use Rattle.tokens.specs.Numbers.{Standing};
@@ -154,7 +154,9 @@ pub fn reserve_number(file: &[u8], name: &[u8], facts: &[u16], scratch: &mut [u1
     requires short { length file.now ≤ 32768 }
     requires funded { Funded file.now facts.now }
     requires room { length file.now ≤ 3 * length scratch.old }
-    ensures { result ≡ reserve_number file.now name.now }
+    ensures reads { result ≡ reserve_number file.now name.now }
+    ensures some { 0 < result }
+    ensures small { result < 65536 }
 {
     started(file, name, raises_number(file, name, facts, scratch))
 }

@@ -1,6 +1,6 @@
 // SPDX-License-Identifier: Apache-2.0 OR MIT
 // A set of tokens as one number, and the set that an entry names.
-ghost use Rattle.std.specs.Prelude.{◌≡◌, ◌*◌, ◌≤◌, length, take, drop};
+ghost use Rattle.std.specs.Prelude.{◌≡◌, ◌*◌, ◌≤◌, ◌<◌, length, take, drop};
 ghost use Rattle.laws.specs.Texts.{same_bytes};
 ghost use Rattle.walking.specs.Table.{placed_at};
 ghost use Rattle.conditions.specs.Table.{condition_at};
@@ -107,7 +107,8 @@ fn joined_from(
 pub fn tokens_number(file: &[u8], place: usize, table: &mut [u16]) -> usize
     requires standing { Standing file.now place 0 }
     requires room { length file.now ≤ 3 * length table.old }
-    ensures { result ≡ tokens_number file.now (placed_at file.now place) }
+    ensures reads { result ≡ tokens_number file.now (placed_at file.now place) }
+    ensures small { result < 65536 }
 {
     let named = joined_from(file, place, LIMITS, DENIES, 0, table);
     if named == 1 {
