@@ -88,7 +88,7 @@ unfolding placed sizes
 row_ends b n (end r) h = tt
 row_ends b n (next f fs) h = (omega arith, row_ends b (n + size f) fs (omega arith))
 
-parts-end : (b : ℕ) (p : Placed) → Ends b p → Every (Ends b) (placed_parts p)
+pub parts-end : (b : ℕ) (p : Placed) → Ends b p → Every (Ends b) (placed_parts p)
 parts-end b p h = row_ends b (p.place + 3) (parts p.this) (omega (arith, parts-inside p.this))
 
 module _ (entry : List ℕ) where
@@ -107,7 +107,7 @@ module _ (entry : List ℕ) where
       let z : n % 32768 ≡ n = mod-eq_of_lt h in
       rw (z, z, lt-leb 32768 n h, e)
 
-  read-marks : length entry ≤ 32768 → (cs : List Condition) → Every (Holds (Stands entry)) cs → Every (Holds (Ends (length entry))) cs →
+  pub read-marks : length entry ≤ 32768 → (cs : List Condition) → Every (Holds (Stands entry)) cs → Every (Holds (Ends (length entry))) cs →
       map (condition_at entry) (marks cs) ≡ cs
   read-marks h [] e l = refl
   read-marks h (c ∷ cs) e l =
@@ -124,9 +124,9 @@ module _ (entry : List ℕ) where
     end-here : Ends (length entry) here
     end-here = omega (arith, front-size s w, leb-true (3 + length_of s) (length s) w)
 
-    conditions-read : length entry ≤ 32768 → map (condition_at entry) (marks (conditions_at s n)) ≡ conditions_at s n
+    here-read : length entry ≤ 32768 → map (condition_at entry) (marks (conditions_at s n)) ≡ conditions_at s n
     unfolding conditions_at
-    conditions-read h =
+    here-read h =
         read-marks h (conditions_of here) (conditions-every (Stands entry) (parts-stand entry) here e)
         (conditions-every (Ends (length entry)) (parts-end (length entry)) here end-here)
 
@@ -137,4 +137,4 @@ module _ (entry : List ℕ) where
       table-wide h = omega (arith, p.count, length-map (conditions_of here) mark, conditions-few here, end-here)
 
       pub table-read : length entry ≤ 32768 → r ≤ length table → map (condition_at entry) (take r last) ≡ conditions_at s n
-      table-read h m = rw (listed-front (marks (conditions_at s n)) table last r p m) (conditions-read h)
+      table-read h m = rw (listed-front (marks (conditions_at s n)) table last r p m) (here-read h)

@@ -1,4 +1,5 @@
 pub mod Few
 pub mod Splitting
 pub mod Callers
+pub mod Required
 pub mod Examples
