@@ -48,10 +48,7 @@ both-few n (end r) = omega arith
 both-few n (next f fs) =
     omega (arith, from_next n f fs Limits Denies, from_next n f fs Guard Guard, one-of-them n f fs, conditions-few (record { place = n; this = f }), both-few (n + size f) fs)
 
-pub clauses-few : (n : ℕ) (fs : Fields) → 3 * length (conditions_from Limits Denies n fs) ≤ sizes fs
-clauses-few n fs = omega (arith, both-few n fs)
-
-pub required-few : (f : Field) → 3 + 3 * length (required_conditions f) ≤ size f
+required-few : (f : Field) → 3 + 3 * length (required_conditions f) ≤ size f
 unfolding required_conditions
 required-few f = rw length-append (omega (arith, both-few 3 (parts f), parts-inside f))
 
@@ -64,7 +61,7 @@ front_ends : (entry : List ℕ) → whole entry ≡ true → size (front entry) 
 front_ends entry w = rw (front-size entry w) (leb-true (3 + length_of entry) (length entry) w)
 
 module _ (entry : List ℕ) where
-  pub conditions-end : Every (Holds (Ends (length entry))) (required_conditions (front entry))
+  conditions-end : Every (Holds (Ends (length entry))) (required_conditions (front entry))
   conditions-end = go (whole entry) refl
     where
       go : (w : Bool) → whole entry ≡ w → Every (Holds (Ends (length entry))) (required_conditions (front entry))

@@ -2,7 +2,7 @@
 -- also where the bytes are cut off: behind a record that is cut off nothing is left.
 use Rattle.std.proofs.Common.{ℕ, zero, suc, ◌+◌, ◌-◌, ◌*◌, ◌≤◌, ◌<◌, ◌/◌, ◌%◌, ◌≡◌, refl, sym, ap, ◌∙◌, Bool, true, false, cond, List, [], ◌++◌}
 use Rattle.std.proofs.Common.{append_assoc, append-nil, arith, leb-true, leb-false, leb, eqb, length, take, drop}
-use Rattle.std.proofs.Common.{get_or-take, get_or-drop, drop-drop, drop_of_length-le, length-take, length-append}
+use Rattle.std.proofs.Common.{take_all, get_or-take, get_or-drop, drop-drop, drop_of_length-le, length-take, length-append}
 use mathlib.Core.List.{flat_map}
 use lib.Seq.{drop-nil, take-append_seam, take-append-add, drop-append_seam}
 use Rattle.laws.proofs.Slices.{drop-take}
@@ -147,3 +147,13 @@ module _ (f : ℕ → List ℕ) (count : ℕ) (read : (n : ℕ) → n < count �
       let (behind, e) = stands f count n h in
       let there : records_from bytes n ≡ take (k - before n) (f n ++ behind) = records-before n (omega (arith, h)) ∙ from-there n behind e in
       (take (k - before n - length (f n)) behind, there ∙ whole-front (f n) behind (read n h behind) (k - before n) (rw there at w))
+
+  -- where none is cut off, each is whole
+  pub record-there : (n : ℕ) → n < count → length (flat_map f (below count)) ≤ k → Whole (records_from bytes n)
+  unfolding Whole
+  record-there n h room =
+      let (behind, e) = stands f count n h in
+      let there : records_from bytes n ≡ take (k - before n) (f n ++ behind) = records-before n (omega (arith, h)) ∙ from-there n behind e in
+      let long : length (flat_map f (below count)) ≡ before n + length (f n ++ behind) =
+      ap length e ∙ length-append (flat_map f (below n)) (f n ++ behind) in
+      rw (there, take_all (k - before n) (f n ++ behind) (omega (arith, room, long)), read n h behind) (omega (arith, length-append (f n) behind))

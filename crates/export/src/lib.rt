@@ -10,7 +10,7 @@ ghost use Rattle.claim.specs.Claim.{Demand3};
 ghost use Rattle.output.specs.Output.{Written};
 ghost use Rattle.listing.specs.Listing.{listing};
 ghost use Rattle.contract.specs.Records as contract;
-ghost use Rattle.contract.specs.Backed.{EachBacked, EachVerdictBacked};
+ghost use Rattle.contract.specs.Backed.{EachBacked, EachWhole, EachVerdictBacked};
 ghost use Rattle.export.specs.Refusal.{question_in, place_in};
 
 pub mod compare;
@@ -49,13 +49,14 @@ pub extern "C" fn zevdrak_verdict(
 // The verdicts on all entries of a file: a record of bytes for each (Records in the specs of crates/contract), written into the
 // front of records as far as it has room, and how many bytes of it they take. The answer is 0 where each entry is accepted; else
 // the largest of what they are, or 2 where the file is refused or has no entry. Demand 3 is `backed`: what each record says of its
-// entry's payouts, where the bytes that were written have it whole; and `verdicts`: what each verdict says of them, however few
-// bytes were lent.
+// entry's payouts, where the bytes that were written have it whole. They have each entry's, if 12,608 bytes are lent: `whole`. And
+// `verdicts` is demand 3 of each entry's verdict, however few bytes are lent.
 #[unsafe(no_mangle)]
 pub extern "C" fn zevdrak_contract(file: &[u8], records: &mut [u8], length: &mut usize) -> u8
     ensures answer { result ≡ contract.outcome_of_all file.now }
     ensures records { Written (contract.records file.now) «records».old 0 «records».new «length».new }
     ensures backed { EachBacked file.now (take «length».new «records».new) }
+    ensures whole { EachWhole file.now «records».old (take «length».new «records».new) }
     ensures verdicts { EachVerdictBacked file.now }
 {
     let recorded = write_records(file, records);

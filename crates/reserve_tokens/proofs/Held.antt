@@ -1,6 +1,6 @@
 -- The token of each raise and the one found so far: an unknown one leaves none, one that differs neither, and one that is the
 -- same changes nothing. So the number that is agreed on stands for the one token of all.
-use Rattle.std.proofs.Common.{ℕ, ◌≤◌, ◌<◌, ◌≡◌, refl, sym, ◌∙◌, Bool, true, false, cond, not, List, [], ◌∷◌, map, arith, ltb-true, ltb-false, ltb, length}
+use Rattle.std.proofs.Common.{ℕ, ◌≤◌, ◌≡◌, refl, sym, ◌∙◌, Bool, true, false, cond, not, List, [], ◌∷◌, map, arith, ltb-true, ltb-false, ltb, length}
 use Rattle.laws.specs.Lists.{all}
 use Rattle.laws.specs.Texts.{known, same_bytes}
 use Rattle.laws.proofs.Texts.{bytes-equal, bytes_same, unknown, is_known, same-unknown}
@@ -115,25 +115,15 @@ agreed_held file k (n ∷ ns) = go (bars (token_of file k) (token_of file n)) re
 pub agreed-token : (file : List ℕ) (ns : List ℕ) → token_of file (agreed file 1 ns) ≡ single (map (token_of file) ns)
 agreed-token file ns = agreed_held file 1 ns ∙ rw (token-none-of file) (held_none (map (token_of file) ns))
 
--- two bytes hold it
-pub agreed-small : (file : List ℕ) → length file ≤ 32768 → (k : ℕ) (ns : List ℕ) → k < 65536 → agreed file k ns < 65536
+-- and it is that of a known token, or 1
+pub agreed-found : (file : List ℕ) → length file ≤ 32768 → (k : ℕ) (ns : List ℕ) → Found file k → Found file (agreed file k ns)
 unfolding agreed
-agreed-small file h k [] l = l
-agreed-small file h k (n ∷ ns) l = go (bars (token_of file k) (token_of file n)) refl (agreed-small file h n ns)
+agreed-found file h k [] i = i
+agreed-found file h k (n ∷ ns) i = go (bars (token_of file k) (token_of file n)) refl (agreed-found file h n ns)
   where
-    go : (b : Bool) → bars (token_of file k) (token_of file n) ≡ b → (n < 65536 → agreed file n ns < 65536) → cond b 1 (agreed file n ns) < 65536
-    go true e f = omega arith
-    go false e f = f (found-known file h n (not-barred (token_of file k) (token_of file n) e)).small
-
--- and it is never 0
-pub agreed-some : (file : List ℕ) → length file ≤ 32768 → (k : ℕ) (ns : List ℕ) → 0 < k → 0 < agreed file k ns
-unfolding agreed
-agreed-some file h k [] l = l
-agreed-some file h k (n ∷ ns) l = go (bars (token_of file k) (token_of file n)) refl (agreed-some file h n ns)
-  where
-    go : (b : Bool) → bars (token_of file k) (token_of file n) ≡ b → (0 < n → 0 < agreed file n ns) → 0 < cond b 1 (agreed file n ns)
-    go true e f = omega arith
-    go false e f = f (found-known file h n (not-barred (token_of file k) (token_of file n) e)).some
+    go : (b : Bool) → bars (token_of file k) (token_of file n) ≡ b → (Found file n → Found file (agreed file n ns)) → Found file (cond b 1 (agreed file n ns))
+    go true e f = found_none file
+    go false e f = f (found-known file h n (not-barred (token_of file k) (token_of file n) e))
 
 -- what the code tests
 module _ (file : List ℕ) (found k : ℕ) where

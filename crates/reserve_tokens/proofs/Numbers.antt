@@ -1,6 +1,6 @@
 -- Each number stands for its token: a guard's comparison stands in the file, a map's number for its funding token, and what raises
 -- agree on for the one token of all.
-use Rattle.std.proofs.Common.{ℕ, ◌+◌, ◌-◌, ◌≤◌, ◌<◌, ◌≡◌, refl, sym, ap, ◌∙◌, Bool, true, false, cond, not, List, [], ◌∷◌, map, arith, le-leb, ne_eqb, eqb, length, drop}
+use Rattle.std.proofs.Common.{ℕ, ◌+◌, ◌-◌, ◌≤◌, ◌≡◌, refl, sym, ap, ◌∙◌, Bool, true, false, cond, not, List, [], ◌∷◌, map, arith, le-leb, ne_eqb, eqb, length, drop}
 use mathlib.Core.List.{flat_map, map-append}
 use mathlib.Core.Option.{Option, none, some}
 use Rattle.laws.specs.Lists.{filter, find}
@@ -25,8 +25,9 @@ use Rattle.fundings.proofs.Calls.{first-there}
 use Rattle.fundings.proofs.Shown.{entries-stand, funding-token}
 use Rattle.raises.specs.Raises.{starts_at_zero, raises}
 use Rattle.reserve_tokens.specs.ReserveTokens.{credited, guard_token, guard_tokens, only, debit_token, raise_token, raise_tokens, reserve_token}
+use Rattle.reserve_tokens.specs.Reserving.{Found}
 use Rattle.reserve_tokens.specs.Numbers.{guard_number, guard_numbers, only_number, debit_number, raise_number, numbers_in, agreed, reserve_number}
-use Rattle.reserve_tokens.proofs.Held.{agreed-token, agreed-small, agreed-some, token-none-of}
+use Rattle.reserve_tokens.proofs.Held.{agreed-token, agreed-found, found_none, token-none-of}
 
 module _ (file : List ℕ) where
   -- Guards
@@ -156,14 +157,8 @@ module _ (file : List ℕ) where
       pub reserve-there : Shows file (token_place file (reserve_number file r)) t
       reserve-there = token-shows file k t f (reserve_number file r) e
 
-    pub reserve-small : length file ≤ 32768 → reserve_number file r < 65536
+    pub reserve-found : length file ≤ 32768 → Found file (reserve_number file r)
     unfolding reserve_number
-    reserve-small h =
-        chosen (λ k. k < 65536) (starts_at_zero (fields file) r)
-        (agreed-small file h 1 (flat_map (numbers_in file r) (entries (fields file))) (omega arith)) (omega arith)
-
-    pub reserve-some : length file ≤ 32768 → 0 < reserve_number file r
-    unfolding reserve_number
-    reserve-some h =
-        chosen (λ k. 0 < k) (starts_at_zero (fields file) r)
-        (agreed-some file h 1 (flat_map (numbers_in file r) (entries (fields file))) (omega arith)) (omega arith)
+    reserve-found h =
+        chosen (Found file) (starts_at_zero (fields file) r)
+        (agreed-found file h 1 (flat_map (numbers_in file r) (entries (fields file))) (found_none file)) (found_none file)

@@ -10,7 +10,7 @@ use Rattle.reserve_tokens.specs.Numbers.{numbers_in, reserve_number}
 use Rattle.reserve_tokens.specs.Agreeing.{Agreed, Agreeing}
 use Rattle.reserve_tokens.specs.Each.{nth_name, Each, EachAgreed, EachAgreeing, EachAllAgree}
 use Rattle.reserve_tokens.proofs.Raised.{none-assigned}
-use Rattle.reserve_tokens.proofs.Numbers.{reserve-small}
+use Rattle.reserve_tokens.proofs.Numbers.{reserve-found}
 use Rattle.reserve_tokens.proofs.Reserving.{Ahead, Within, none-more, ahead-all, ahead-on, ahead-end}
 
 -- One number after the other
@@ -67,7 +67,7 @@ agreeing-small file before ns r v = go (eqb r 0) refl
     go false e = (v.found (eqb-false r 0 e)).small
 
 pub number-small : (file name : List ℕ) (r : ℕ) → r ≡ reserve_number file name → length file ≤ 32768 → r < 65536
-number-small file name r e h = rw e (reserve-small file name h)
+number-small file name r e h = rw e (reserve-found file name h).small
 
 -- Entry by entry
 

@@ -1,5 +1,6 @@
 -- The state fields that guards name, by their numbers: the first that holds the token is the first that covers.
-use Rattle.std.proofs.Common.{ℕ, zero, suc, ◌+◌, ◌-◌, ◌≤◌, ◌<◌, ◌≡◌, refl, sym, ap, ◌∙◌, Bool, true, false, not, cond, ◌&&◌, List, [], ◌∷◌, map, arith, get_or, set, length, length-set, get_or-set_other, eqb, ne_eqb, drop, drop_of_length-le}
+use Rattle.std.proofs.Common.{ℕ, zero, suc, ◌+◌, ◌-◌, ◌≤◌, ◌<◌, ◌≡◌, refl, sym, ap, ◌∙◌, Bool, true, false, not, cond, ◌&&◌, List, [], ◌∷◌, map, arith}
+use Rattle.std.proofs.Common.{get_or, set, length, length-set, get_or-set_other, eqb, ne_eqb, drop, drop_of_length-le}
 use mathlib.Core.Option.{Option, none, some}
 use Rattle.laws.specs.Texts.{same_bytes}
 use Rattle.laws.specs.Lists.{any, find, position}

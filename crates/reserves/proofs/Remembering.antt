@@ -7,7 +7,6 @@ use Rattle.fields.specs.Field.{fields}
 use Rattle.tokens.specs.Numbers.{not_yet}
 use Rattle.reserve_tokens.specs.ReserveTokens.{reserve_token}
 use Rattle.reserve_tokens.specs.Numbers.{reserve_number}
-use Rattle.reserve_tokens.proofs.Numbers.{reserve-small}
 use Rattle.fundings.specs.Funded.{Relisted, remembered_at, state_fields, listed_from, facts_size}
 use Rattle.reserves.specs.States.{state_name}
 use Rattle.reserves.specs.Holding.{is_token, holds_token, Facts, Numbered}
@@ -100,7 +99,3 @@ pub by_token : (file token : List ℕ) (index : ℕ) (t : List ℕ) → t ≡ re
     (r : Bool) → r ≡ is_token t token → r ≡ holds_token file token index
 unfolding holds_token
 by_token file token index t f r h = rw (h, f)
-
--- a number that is written has two bytes
-pub written-small : (file n : List ℕ) → length file ≤ 32768 → (number : ℕ) → number ≡ reserve_number file n → number < 65536
-written-small file n h number e = rw e (reserve-small file n h)

@@ -1,9 +1,9 @@
 -- The number stands for a token of the file, or is 1 for none.
-use Rattle.reserve_tokens.proofs.Numbers.{reserve-some, reserve-small}
+use Rattle.reserve_tokens.proofs.Numbers.{reserve-found}
 use Rattle.reserve_tokens.proofs.reserve.reserve_number.Goals as goal
 
 pub returns-clause-some : goal.returns-clause-some
-returns-clause-some c = rw c.started.ensures (reserve-some c.args.file.now c.args.name.now c.requires.short)
+returns-clause-some c = rw c.started.ensures (reserve-found c.args.file.now c.args.name.now c.requires.short).some
 
 pub returns-clause-small : goal.returns-clause-small
-returns-clause-small c = rw c.started.ensures (reserve-small c.args.file.now c.args.name.now c.requires.short)
+returns-clause-small c = rw c.started.ensures (reserve-found c.args.file.now c.args.name.now c.requires.short).small
