@@ -62,7 +62,7 @@ Unused m index i = any (eqb index) (down_from (used_at m) i) ≡ any (eqb index)
 
 module _ (m : Coded) (index i : ℕ) (v : Unused m index i) where
   pub unused-all : i ≤ 0 → false ≡ any (eqb index) (down_from (used_at m) m.uses)
-  unfolding any down_from
+  unfolding down_from
   unused-all h = let e : i ≡ 0 = omega arith in rw e at v
 
   module _ (h : 0 < i) (x : ℕ) (e : x ≡ used_at m (i - 1)) where
@@ -70,11 +70,11 @@ module _ (m : Coded) (index i : ℕ) (v : Unused m index i) where
     step = let f : i ≡ suc (i - 1) = omega arith in rw (← f) v
 
     pub unused_found : index ≡ x → true ≡ any (eqb index) (down_from (used_at m) m.uses)
-    unfolding any down_from
+    unfolding down_from
     unused_found f = rw (← e, eq-eqb index x f) at step
 
     pub unused-on : (index ≡ x → ⊥) → Unused m index (i - 1)
-    unfolding any down_from
+    unfolding down_from
     unused-on f = rw (← e, ne_eqb index x f) at step
 
 -- whether a search found one

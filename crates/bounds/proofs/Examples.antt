@@ -135,15 +135,15 @@ never =
     ∷ []
 
 always-bounded : all by_n always ∷ all by_n_wrapping always ∷ [] ≡ true ∷ true ∷ []
-unfolding all filter same_bytes composite is_wrapper fields fields_to nth peel peel_first strip same_text expr_eq parts_eq goes_left wrapping_inside bounded_by_backing left_bounded
+unfolding same_bytes composite is_wrapper fields fields_to nth peel peel_first strip same_text expr_eq parts_eq goes_left wrapping_inside bounded_by_backing left_bounded
 always-bounded = refl
 
 bounded-unless-wrapping : all by_n unless_wrapping ∷ any by_n_wrapping unless_wrapping ∷ [] ≡ true ∷ false ∷ []
-unfolding all any filter same_bytes composite is_wrapper fields fields_to nth peel peel_first strip same_text expr_eq parts_eq goes_left wrapping_inside bounded_by_backing left_bounded
+unfolding same_bytes composite is_wrapper fields fields_to nth peel peel_first strip same_text expr_eq parts_eq goes_left wrapping_inside bounded_by_backing left_bounded
 bounded-unless-wrapping = refl
 
 never-bounded : any by_n never ∷ any by_n_wrapping never ∷ [] ≡ false ∷ false ∷ []
-unfolding any filter same_bytes composite is_wrapper fields fields_to nth peel peel_first strip same_text expr_eq parts_eq goes_left wrapping_inside bounded_by_backing left_bounded
+unfolding same_bytes composite is_wrapper fields fields_to nth peel peel_first strip same_text expr_eq parts_eq goes_left wrapping_inside bounded_by_backing left_bounded
 never-bounded = refl
 
 -- Other backings
@@ -190,5 +190,5 @@ no =
     ∷ []
 
 others-bounded : all bounded yes ∷ any bounded no ∷ [] ≡ true ∷ false ∷ []
-unfolding all any filter same_bytes composite is_wrapper fields fields_to nth peel peel_first strip same_text expr_eq parts_eq goes_left wrapping_inside bounded_by_backing left_bounded
+unfolding same_bytes composite is_wrapper fields fields_to nth peel peel_first strip same_text expr_eq parts_eq goes_left wrapping_inside bounded_by_backing left_bounded
 others-bounded = refl

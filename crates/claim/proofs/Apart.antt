@@ -47,7 +47,7 @@ bounding-names k i b = go b.source refl
 -- a reserve that is used can be named no more
 reserve-room : (k i j : ℕ) (used : List ℕ) → any (eqb j) used ≡ false →
     bit (names k i (reserve j)) + bit (eqb k 5 && not (any (eqb i) (j ∷ used))) ≤ bit (eqb k 5 && not (any (eqb i) used))
-unfolding kind index named_by any
+unfolding kind index named_by
 reserve-room k i j used e = go (eqb k 5) (eqb i j) refl
   where
     go : (x y : Bool) → eqb i j ≡ y →
@@ -68,7 +68,6 @@ module _ (model : Fields) (entry : Field) (k i : ℕ) where
 
   -- so often at most the covers of a pass name it
   passed-room : (s : Marks) (ps : List Field) (cs : List Cover) → Passed model entry s ps cs → count (names k i) cs ≤ room s k i
-  unfolding filter
   passed-room s ps cs done = omega arith
   passed-room s ps cs (step {t} {p} {ps = qs} {c} {cs = ds} x r) =
       omega (arith, count-cons (names k i) c ds, step_room s p c t x, passed-room t qs ds r)

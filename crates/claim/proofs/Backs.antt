@@ -2,7 +2,7 @@
 -- its index, and a reserve stands at the position of its name.
 use Rattle.std.proofs.Common.{ℕ, zero, suc, ◌<◌, arith, not-suc-le-zero, ◌≡◌, refl, ap, Bool, true, false, ◌&&◌, not, List, eq-eqb, eqb, length, get_or}
 use mathlib.Core.Bool.{or-false}
-use mathlib.Core.Option.{some}
+use Rattle.std.proofs.Common.{Some}
 use Rattle.laws.specs.Lists.{any, find, remove_first, position, numbered}
 use Rattle.laws.specs.Texts.{same_bytes}
 use Rattle.laws.proofs.Finding.{any_found, any-removed, find-passes}
@@ -68,7 +68,7 @@ module _ (model : Fields) (entry : Field) where
 
   module _ (s : Marks) (w : Within s) (p : Field) where
     -- the first free backing that passes a test, its token not known to differ, stands at its index
-    module _ (test : Backing → Bool) (b : Backing) (e : find test s.free ≡ some b) (a : Agree p b) where
+    module _ (test : Backing → Bool) (b : Backing) (e : find test s.free ≡ Some b) (a : Agree p b) where
       fits : Backing → Bool
       fits x = test x && not_known_to_differ p x
 
@@ -99,7 +99,7 @@ module _ (model : Fields) (entry : Field) where
     is_field r e = search (and_left, and_right)
 
     -- the first reserve that covers stands at the position of its name
-    reserve-at : (r : List ℕ) → reserve_bounding_payout model entry (peel (payout_amount p)) (payout_token p) ≡ some r →
+    reserve-at : (r : List ℕ) → reserve_bounding_payout model entry (peel (payout_amount p)) (payout_token p) ≡ Some r →
         passes_at (backs_reserve model entry p) (state_names model) (position (same_bytes r) (state_names model)) ≡ true
     unfolding reserve_bounding_payout backs_reserve
     reserve-at r e =

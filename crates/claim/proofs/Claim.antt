@@ -65,7 +65,7 @@ module _ (model : Fields) (entry : Field) (lent : List ℕ) where
   -- where each payout's amount equals some backing's
   module _ (a : EachEqualsSome model entry) where
     all-met : AllMet (start model entry) (payouts entry)
-    unfolding EachEqualsSome EachPayout start backings any
+    unfolding EachEqualsSome EachPayout start backings
     all-met i h = rw (a i h)
 
     jth-left : (cs : List Cover) → Matched cs → (i : ℕ) → i < length (payouts entry) →

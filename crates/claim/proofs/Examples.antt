@@ -2,7 +2,7 @@
 -- reserves by themselves, computed too.
 use Rattle.std.proofs.Common.{ℕ, ◌≡◌, refl, List, [], ◌∷◌, ◌++◌, replicate}
 use Prim.Native.String.{String}
-use mathlib.Core.Option.{none, some}
+use Rattle.std.proofs.Common.{None, Some}
 use Rattle.tags.specs.Tag.{Genesis, Limits, Denies, Set, AddTo, SubtractFrom, Not, Call, Checked, Wrapping, Or, And, Eq, Ne, Lt, Ge, Add, Sub, Rem, Shr}
 use Rattle.tags.specs.Tag.{String as StringTag}
 use Rattle.fields.proofs.Writing.{write, word, integer, identifier}
@@ -101,10 +101,10 @@ backed =
 -- the reserves by themselves: of K11, of K12, of two payouts of one amount, of which neither uses it up, and of one that is
 -- backed; none of a payout or an entry that is not there
 alone : reserve_in k11 1 0 ∷ reserve_in k12 1 0 ∷ reserve_in again 2 0 ∷ reserve_in again 2 1 ∷ reserve_in backed 1 0 ∷ []
-    ≡ some 0 ∷ none ∷ some 1 ∷ some 1 ∷ some 0 ∷ []
+    ≡ Some 0 ∷ None ∷ Some 1 ∷ Some 1 ∷ Some 0 ∷ []
 unfolding reserve_in
 alone = refl
 
-absent : reserve_in k11 1 1 ∷ reserve_in k11 0 0 ∷ reserve_in k11 2 0 ∷ reserve_in [] 0 0 ∷ [] ≡ replicate 4 none
+absent : reserve_in k11 1 1 ∷ reserve_in k11 0 0 ∷ reserve_in k11 2 0 ∷ reserve_in [] 0 0 ∷ [] ≡ replicate 4 None
 unfolding reserve_in
 absent = refl

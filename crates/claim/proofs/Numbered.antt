@@ -35,14 +35,14 @@ module _ {A B : Type 0} (mk : ℕ × A → B) (index : B → ℕ) (kept : (p : �
 
   -- none has a number below the first's
   none_before : (n i : ℕ) (l : List A) → any (has i) (numbers n l) ≡ true → n ≤ i
-  unfolding any numbered numbers
+  unfolding numbered numbers
   none_before n i [] e = absurd (false≢true e)
   none_before n i (x ∷ xs) e =
       either (has i (mk (n, x))) (any (has i) (numbers (suc n) xs)) (λ h. omega (arith, has-number i (n, x) h))
       (λ h. omega (arith, none_before (suc n) i xs h)) e
 
   at_from : (n i : ℕ) (l : List A) → any (has (n + i)) (numbers n l) ≡ true → passes_at f (numbers n l) i ≡ true
-  unfolding any numbered passes_at numbers has
+  unfolding numbered passes_at numbers has
   at_from n i [] e = e
   at_from n zero (x ∷ xs) e =
       either (has (n + 0) (mk (n, x))) (any (has (n + 0)) (numbers (suc n) xs))

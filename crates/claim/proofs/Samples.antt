@@ -1,7 +1,7 @@
 -- Entries written by hand, and what the definitions say of them.
 use Rattle.std.proofs.Common.{ℕ, ◌≡◌, refl, List, [], ◌∷◌, ◌++◌, map, length}
 use mathlib.Core.List.{flat_map}
-use mathlib.Core.Option.{Option}
+use Rattle.std.proofs.Common.{Option}
 use Prim.Native.String.{String}
 use Rattle.laws.specs.Lists.{any, all, filter, find, remove_first, position, numbered}
 use Rattle.laws.specs.Texts.{same_bytes, known}
@@ -45,7 +45,7 @@ about f n v = record { file = f; number = n; lent = 192; expected = v }
 
 -- what the definitions say of each row
 unfoldable pub found : List Row → List Verdict
-unfolding any all filter find remove_first position numbered same_bytes known is_item is_clause is_statement is_assign is_expression
+unfolding remove_first position numbered same_bytes known is_item is_clause is_statement is_assign is_expression
     is_text is_wrapper composite fields fields_to nth row fields_from size sizes placed placed_from states state_names genesis entries
     params body in_class grammar slots_in advance complete content_allowed ask_field ask_fields ask_names at_most ask_form ask_file peel
     peel_first walk walk_parts stmt_exprs body_exprs exprs guards ident method receiver is_debit is_payout asset_amount_backer

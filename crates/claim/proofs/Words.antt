@@ -1,6 +1,6 @@
 -- The claim's own words computed: what backs a payout and what does not, and which is the j-th of an amount.
 use Rattle.std.proofs.Common.{ℕ, ◌≡◌, refl, Bool, true, false, List, [], ◌∷◌, ◌++◌, map}
-use mathlib.Core.Option.{none, some}
+use Rattle.std.proofs.Common.{None, Some}
 use Rattle.tags.specs.Tag.{Checked}
 use Rattle.fields.specs.Field.{front, fields}
 use Rattle.fields.proofs.Writing.{write, integer}
@@ -59,7 +59,7 @@ counting file payouts =
     let this = front file in
     map (λ i.
     let before = earlier (fields file) this i in
-    elim (jth (fields file) this i) [ none ↦ (before, 0, 0) | some b ↦ (before, equal_kind b.source, b.index) ])
+    elim (jth (fields file) this i) [ None ↦ (before, 0, 0) | Some b ↦ (before, equal_kind b.source, b.index) ])
     payouts
 
 -- n twice debited, once wrapped, with another debit between, and a.amount debited: debits first, each amount by itself

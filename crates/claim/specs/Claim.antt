@@ -3,8 +3,8 @@
 -- reserve is a state field that covers by Reserves. "Amounts equal, bound, guard and lower here as in 01's Matching, Bounds
 -- and Reserves, peeled wherever those peel": the tests are those modules' own, `equals`, `bounds` and `reserve_covers`.
 use Rattle.std.specs.Prelude.{ℕ, ◌+◌, ◌*◌, ◌<◌, Bool, true, false, cond, ◌&&◌, ◌||◌, not, List, ◌++◌, ◌↔◌, ◌≡◌, eqb, length, get_or, take}
-use Rattle.std.proofs.Math.Option.{Option, none, some}
-use Rattle.std.proofs.Math.ListN.{get_elem?}
+use Rattle.std.specs.Prelude.{Option, None, Some}
+use Rattle.std.specs.Prelude.{slice_get}
 use Rattle.laws.specs.Lists.{any, filter}
 use Rattle.fields.specs.Field.{Field, Fields, fields, nothing}
 use Rattle.model.specs.Model.{state_names}
@@ -37,7 +37,7 @@ equal_kind parameter = 2
 
 -- a list has an element at index i, and it passes the test
 unfoldable pub passes_at : {A : Type 0} → (A → Bool) → List A → ℕ → Bool
-passes_at test l i = elim (get_elem? l i) [ none ↦ false | some x ↦ test x ]
+passes_at test l i = elim (slice_get l i) [ None ↦ false | Some x ↦ test x ]
 
 -- "the two tokens not known to differ", of a payout and a debit or parameter
 unfoldable pub not_known_to_differ : Field → Backing → Bool
@@ -93,16 +93,16 @@ module _ (model : Fields) (entry : Field) where
 
   -- "a j-th such debit or parameter", whose amount equals the payout's
   unfoldable pub jth : ℕ → Option Backing
-  jth i = get_elem? (filter (equals (payout_at i)) debits_first) (earlier i)
+  jth i = slice_get (filter (equals (payout_at i)) debits_first) (earlier i)
 
   -- "there is" one, "and the two tokens are not known to differ"
   unfoldable pub HasJth : ℕ → Type 0
-  HasJth i = (b : Backing) × (jth i ≡ some b) × (not_known_to_differ (payout_at i) b ≡ true)
+  HasJth i = (b : Backing) × (jth i ≡ Some b) × (not_known_to_differ (payout_at i) b ≡ true)
 
   -- the cover written for the payout is that one, "with kind 1 or 2"
   unfoldable pub NamesJth : (covers : List ℕ) → ℕ → Type 0
   NamesJth covers i =
-      (b : Backing) × (jth i ≡ some b) × (kind_at covers i ≡ equal_kind b.source) × (index_at covers i ≡ b.index)
+      (b : Backing) × (jth i ≡ Some b) × (kind_at covers i ≡ equal_kind b.source) × (index_at covers i ≡ b.index)
 
   -- what demand 3 says of an answer about E and its two numbers, and of the covers as they were lent and as they are left
   pub record Backed (lent : List ℕ) (answer first second : ℕ) (left : List ℕ) : Type 0 where

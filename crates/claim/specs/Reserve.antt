@@ -1,6 +1,6 @@
 -- The state field that covers a payout by itself: no backing is tried before it, and none is used up.
 use Rattle.std.specs.Prelude.{ℕ, List}
-use Rattle.std.proofs.Math.Option.{Option}
+use Rattle.std.specs.Prelude.{Option}
 use Rattle.fields.specs.Field.{Field, Fields}
 use Rattle.walking.specs.Walking.{peel}
 use Rattle.guards.specs.Payouts.{payout_token, payout_amount}

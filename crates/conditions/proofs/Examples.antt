@@ -81,11 +81,11 @@ entry =
     write Entry (name "f" ++ (write Denies equal ++ (write Limits both ++ (write Guard both ++ (write Let (name "x" ++ equal) ++ write Guard equal)))))
 
 listed : marks (required_conditions (front entry)) ≡ 32778 ∷ 27 ∷ 31 ∷ 48 ∷ 52 ∷ 84 ∷ []
-unfolding fields fields_to nth composite size sizes placed placed_from filter flat_map split_and split_first negated negated_first conditions_of required_conditions mark entry
+unfolding fields fields_to nth composite size sizes placed placed_from flat_map split_and split_first negated negated_first conditions_of required_conditions mark entry
 listed = refl
 
 operators : map operator (required_conditions (front entry)) ≡ Ne ∷ Identifier ∷ Eq ∷ Identifier ∷ Eq ∷ Eq ∷ []
-unfolding fields fields_to nth composite size sizes placed placed_from filter flat_map split_and split_first negated negated_first conditions_of required_conditions opposite operator entry
+unfolding fields fields_to nth composite size sizes placed placed_from flat_map split_and split_first negated negated_first conditions_of required_conditions opposite operator entry
 operators = refl
 
 -- the numbers read back
@@ -96,12 +96,12 @@ read = refl
 
 -- guards come last, also where they stand first, and a clause or guard that is empty gives nothing
 guard-first : marks (required_conditions (front (write Entry (write Guard a ++ (write Limits [] ++ (write Guard [] ++ write Limits a)))))) ≡ 19 ∷ 6 ∷ []
-unfolding fields fields_to nth composite size sizes placed placed_from filter flat_map split_and split_first negated_first conditions_of required_conditions mark
+unfolding fields fields_to nth composite size sizes placed placed_from flat_map split_and split_first negated_first conditions_of required_conditions mark
 guard-first = refl
 
 -- no entry, no conditions
 no-entry : required_conditions nothing ≡ []
-unfolding placed placed_from filter flat_map required_conditions
+unfolding placed placed_from flat_map required_conditions
 no-entry = refl
 
 -- Of one clause or guard that stands at 7: its expression is behind its head; a part that is cut off gives nothing

@@ -24,7 +24,7 @@ module _ (n : ℕ) (f : Field) (fs : Fields) where
 
   from_next : (low high : ℕ) → length (conditions_from low high n (next f fs))
       ≡ cond (between low high (tag f)) (length one) 0 + length (later low high)
-  unfolding flat_map placed_from placed filter
+  unfolding flat_map placed_from placed
   from_next low high = go (between low high (tag f))
     where
       go : (k : Bool) → length (flat_map conditions_of (cond k (record { place = n; this = f } ∷ placed_from low high (n + size f) fs) (placed_from low high (n + size f) fs)))
@@ -43,7 +43,7 @@ module _ (n : ℕ) (f : Field) (fs : Fields) where
       go false false p q = omega arith
 
 both-few : (n : ℕ) (fs : Fields) → 3 * (length (conditions_from Limits Denies n fs) + length (conditions_from Guard Guard n fs)) ≤ sizes fs
-unfolding flat_map placed_from placed filter sizes
+unfolding flat_map placed_from placed sizes
 both-few n (end r) = omega arith
 both-few n (next f fs) =
     omega (arith, from_next n f fs Limits Denies, from_next n f fs Guard Guard, one-of-them n f fs, conditions-few (record { place = n; this = f }), both-few (n + size f) fs)
@@ -54,7 +54,7 @@ required-few f = rw length-append (omega (arith, both-few 3 (parts f), parts-ins
 
 -- where there is no entry, there are no conditions
 none-required : (entry : List ℕ) → whole entry ≡ false → required_conditions (front entry) ≡ []
-unfolding required_conditions flat_map placed_from placed filter
+unfolding required_conditions flat_map placed_from placed
 none-required entry w = rw (front-none entry w)
 
 front_ends : (entry : List ℕ) → whole entry ≡ true → size (front entry) ≤ length entry

@@ -1,8 +1,8 @@
 -- Each "no" has a small number, and a place in the file: places go up field by field, and the fields take the file's bytes.
 use Rattle.std.proofs.Common.{ℕ, zero, suc, ◌+◌, ◌*◌, ◌%◌, ◌≤◌, ◌<◌, ◌≡◌, refl, sym, ap, ◌∙◌, Bool, true, false, not, ◌||◌, List, [], ◌∷◌, ◌++◌, map, arith, leb-true, leb, ltb, length}
 use Rattle.std.proofs.Common.{get_or, drop, get_or-drop}
-use mathlib.Core.Option.{Option}
-use mathlib.Core.Option.{none, some}
+use Rattle.std.proofs.Common.{Option}
+use Rattle.std.proofs.Common.{None, Some}
 use lib.ListN.{get_or-map}
 use Rattle.laws.specs.Lists.{any, filter}
 use Rattle.laws.specs.Texts.{same_bytes}
@@ -46,9 +46,9 @@ module _ (b : ℕ) where
   -- whether the next field may stand here
   fine-advance : (a : Option (List ℕ)) (outer depth place : ℕ) (f : Field) (fs : Fields) → place ≤ b → Fine b (ask_field depth place f) →
       ((left : List ℕ) → Fine b (ask_fields left outer depth (place + size f) fs)) →
-      Fine b (elim a [ none ↦ fails 3 place | some left ↦ ask_field depth place f and_then ask_fields left outer depth (place + size f) fs ])
-  fine-advance none outer depth place f fs h x y = (omega arith, h)
-  fine-advance (some left) outer depth place f fs h x y = fine-then (ask_field depth place f) _ x (y left)
+      Fine b (elim a [ None ↦ fails 3 place | Some left ↦ ask_field depth place f and_then ask_fields left outer depth (place + size f) fs ])
+  fine-advance None outer depth place f fs h x y = (omega arith, h)
+  fine-advance (Some left) outer depth place f fs h x y = fine-then (ask_field depth place f) _ x (y left)
 
   mutual
     unfolding ask_field size

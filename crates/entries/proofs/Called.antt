@@ -22,7 +22,7 @@ use Rattle.entries.specs.Entered.{nowhere, CallsOf}
 module _ (file : List ℕ) (test : Field → Bool) where
   kept-places : (ps : List Placed) → Every (Stands file) ps →
       filter (passes_at file test) (map (λ p. p.place) ps) ≡ map (λ p. p.place) (filter (λ p. test p.this) ps)
-  unfolding filter passes_at
+  unfolding passes_at
   kept-places [] e = refl
   kept-places (p ∷ ps) e = rw e.0 (go (test p.this) (kept-places ps e.1))
     where
@@ -36,7 +36,6 @@ module _ (file : List ℕ) (test : Field → Bool) where
   small ps = filter (passes_at file test) (map (λ p. p.place % 65536) ps)
 
   small-kept : (ps : List Placed) → map (λ k. k % 65536) (small ps) ≡ small ps
-  unfolding filter
   small-kept [] = refl
   small-kept (p ∷ ps) = go (passes_at file test (p.place % 65536)) (small-kept ps)
     where
@@ -58,7 +57,6 @@ module _ (file : List ℕ) (test : Field → Bool) where
 
 -- without their places they are the entry's payouts, or its debits
 fields-where : (test : Field → Bool) (ps : List Placed) → without_places (filter (λ p. test p.this) ps) ≡ filter test (without_places ps)
-unfolding filter
 fields-where test [] = refl
 fields-where test (p ∷ ps) = go (test p.this) (fields-where test ps)
   where

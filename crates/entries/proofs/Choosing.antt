@@ -16,7 +16,7 @@ pub record Choosing (file : List ℕ) (test : Field → Bool) (calls table now :
 
 module _ (file : List ℕ) (test : Field → Bool) where
   where-one : (k : ℕ) → places_where file test (k ∷ []) ≡ cond (passes_at file test k) (k % 65536 ∷ []) []
-  unfolding places_where filter
+  unfolding places_where
   where-one k = go (passes_at file test k)
     where
       go : (b : Bool) → map (λ j. j % 65536) (cond b (k ∷ []) []) ≡ cond b (k % 65536 ∷ []) []
@@ -30,7 +30,7 @@ module _ (file : List ℕ) (test : Field → Bool) where
 
 module _ (file : List ℕ) (test : Field → Bool) (calls table : List ℕ) where
   pub choosing-none : Choosing file test calls table table 0 0
-  unfolding places_where filter
+  unfolding places_where
   choosing-none = record { reached = omega arith; so_far = listed-none table 0; few = omega arith; wide = refl }
 
   module _ (last : List ℕ) (i n : ℕ) (c : Choosing file test calls table last i n) where

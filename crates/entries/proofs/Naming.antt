@@ -106,7 +106,7 @@ abbrev pub name_at : List ℕ → ℕ → List ℕ
 name_at file k = name_of (front (drop k file))
 
 names-placed : (file : List ℕ) (ps : List Placed) → Every (Stands file) ps → map (name_at file) (flat_map asset_place ps) ≡ map name_of (filter is_asset_parameter (map (λ p. p.this) ps))
-unfolding flat_map filter asset_place
+unfolding flat_map asset_place
 names-placed file [] h = refl
 names-placed file (p ∷ ps) h = go (is_asset_parameter p.this) (names-placed file ps h.1)
   where

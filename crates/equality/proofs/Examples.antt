@@ -112,11 +112,11 @@ different =
     ∷ []
 
 all_same : all equal same ≡ true
-unfolding all filter same_bytes composite fields fields_to nth strip same_text expr_eq parts_eq equal
+unfolding same_bytes composite fields fields_to nth strip same_text expr_eq parts_eq equal
 all_same = refl
 
 none-same : any equal different ≡ false
-unfolding any filter same_bytes composite fields fields_to nth strip same_text expr_eq parts_eq equal
+unfolding same_bytes composite fields fields_to nth strip same_text expr_eq parts_eq equal
 none-same = refl
 
 -- what equals itself, by the definition of that: the same, and not where an in-asset stands deep inside

@@ -11,16 +11,16 @@ use Rattle.laws.proofs.Truths.{and_left, and_right}
 use Rattle.equality.specs.Equality.{is_underscore, strip}
 
 strip-underscore : (x : ℕ) (l : List ℕ) → x ≡ 0x5F → strip (x ∷ l) ≡ strip l
-unfolding strip filter
+unfolding strip
 strip-underscore x l e = rw (eq-eqb x 0x5F e)
 
 strip-other : (x : ℕ) (l : List ℕ) → (x ≡ 0x5F → ⊥) → strip (x ∷ l) ≡ x ∷ strip l
-unfolding strip filter
+unfolding strip
 strip-other x l n = rw (ne_eqb x 0x5F n)
 
 -- nothing is left of a text exactly where it is underscores only
 strip-none : (l : List ℕ) → same_bytes [] (strip l) ≡ all is_underscore l
-unfolding strip filter same_bytes all
+unfolding strip same_bytes
 strip-none [] = refl
 strip-none (x ∷ l) = go (eqb x 0x5F) (strip-none l)
   where
@@ -30,7 +30,7 @@ strip-none (x ∷ l) = go (eqb x 0x5F) (strip-none l)
     go false e = refl
 
 strip-pair : (x : ℕ) (l m : List ℕ) → same_bytes (strip (x ∷ l)) (strip (x ∷ m)) ≡ same_bytes (strip l) (strip m)
-unfolding strip filter same_bytes
+unfolding strip same_bytes
 strip-pair x l m = go (eqb x 0x5F)
   where
     go : (k : Bool) →
@@ -40,11 +40,11 @@ strip-pair x l m = go (eqb x 0x5F)
 
 -- where one of two texts has ended, the other may have underscores only
 left_ended : (m : List ℕ) → all is_underscore [] && all is_underscore m ≡ same_bytes (strip []) (strip m)
-unfolding strip filter all
+unfolding strip
 left_ended m = sym (strip-none m)
 
 right-ended : (l : List ℕ) → all is_underscore l && all is_underscore [] ≡ same_bytes (strip l) (strip [])
-unfolding strip filter all
+unfolding strip
 right-ended l = and-true (all is_underscore l) ∙ sym (strip-none l) ∙ bytes-symmetric [] (strip l)
 
 -- what is left of a from i on and of b from j on decides

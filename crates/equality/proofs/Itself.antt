@@ -16,7 +16,7 @@ use Rattle.equality.specs.Itself.{every_tag, every_tags, equals_nothing, in_expr
 
 -- whether a field of this tag, with a text and no parts, equals itself: with no text it is the same
 same-with-none : (t : ℕ) (x : List ℕ) → same_text t x x ≡ same_text t [] []
-unfolding same_text strip filter same_bytes
+unfolding same_text strip same_bytes
 same-with-none t x = rw (bytes_same (strip x), bytes_same x)
 
 abbrev passes : ℕ → Bool
@@ -24,7 +24,7 @@ passes t = not (equals_nothing t) && (composite t || in_expression t)
 
 -- computed at each tag up to the last, 4D
 low-tags : (t : ℕ) → t < 0x4E → composite t || same_text t [] [] ≡ passes t
-unfolding composite same_text strip filter same_bytes equals_nothing in_expression is_expression
+unfolding composite same_text strip same_bytes equals_nothing in_expression is_expression
 low-tags t h = same_truth _ _ (below (λ t. beq (composite t || same_text t [] []) (passes t)) 0x4E refl t h)
 
 -- behind it a tag is of no class
@@ -36,7 +36,7 @@ module _ (t : ℕ) (h : 0x4D < t) where
   other m l = ne_eqb t m (λ e. omega (arith, leb→le m 0x4D l))
 
   high-tags : composite t || same_text t [] [] ≡ passes t
-  unfolding composite same_text strip filter same_bytes equals_nothing in_expression is_expression
+  unfolding composite same_text strip same_bytes equals_nothing in_expression is_expression
   high-tags = simp (past, other, tt {0})
 
 tag-itself : (t : ℕ) (x : List ℕ) → composite t || same_text t x x ≡ passes t

@@ -22,16 +22,13 @@ module _ (low high : ℕ) (p : Field → Bool) where
 
   module _ (s t : List ℕ) (i : Choosing s t) where
     pub choosing-none : whole t ≡ false → chosen_in s ≡ chosen_from t
-    unfolding filter
     choosing-none w = i.left ∙ rw w
 
     module _ (w : whole t ≡ true) where
       pub choosing-here : p (front t) ≡ true → chosen_in s ≡ chosen_from t
-      unfolding filter
       choosing-here a = i.left ∙ rw (w, a)
 
       pub choosing-on : p (front t) ≡ false → (y : List ℕ) → y ≡ after t → (x : List ℕ) → x ≡ from low high y → Choosing s x
-      unfolding filter
       choosing-on a y e x f = record {
         within = omega (arith, i.within, from_less low high t y x w e f);
         left = rw (w, a, ← e) at i.left ∙ (choosing-first y x f).left;

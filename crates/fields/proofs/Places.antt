@@ -44,7 +44,7 @@ pub size-least : (f : Field) → 3 ≤ size f
 size-least f = omega (arith, parts-inside f)
 
 pub row-few : (low high : ℕ) (fs : Fields) → length (fields_from low high fs) ≤ sizes fs
-unfolding fields_from filter row sizes
+unfolding fields_from row sizes
 row-few low high (end r) = omega arith
 row-few low high (next f fs) = go (between low high (tag f)) (row-few low high fs)
   where

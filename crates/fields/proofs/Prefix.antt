@@ -94,5 +94,5 @@ module _ (file : List ℕ) (at : ℕ) (e : end_of (fields (take at file)) ≡ []
 
   pub prefix-from : (low high : ℕ) → fields_from low high (fields (take (at + (3 + length_of (drop at file))) file))
       ≡ fields_from low high (fields (take at file)) ++ cond (between low high (tag (front (drop at file)))) (front (drop at file) ∷ []) []
-  unfolding fields_from filter row
+  unfolding fields_from row
   prefix-from low high = rw one-longer (joined-from low high (fields (take at file)) (next (front (drop at file)) (end [])))

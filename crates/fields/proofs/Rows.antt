@@ -36,7 +36,7 @@ module _ (low high : ℕ) where
 
   -- the row is its first field of the range and the row behind it
   pub from_row : (s : List ℕ) → fields_from low high (fields s) ≡ ahead (from low high s)
-  unfolding fields_from filter row nth
+  unfolding fields_from row nth
   from_row =
       by-fields (λ s. fields_from low high (fields s) ≡ ahead (from low high s)) (λ s w. rw (from_end s w, fields-end s w))
       (λ s w c a. go s w a (between low high (tag (front s))) refl)
@@ -60,7 +60,7 @@ module _ (low high : ℕ) where
       ∷ placed_from low high (k + (length s - length (after t))) (fields (after t))) []
 
   pub from-placed : (s : List ℕ) (k : ℕ) → placed_from low high k (fields s) ≡ rest_of k s (from low high s)
-  unfolding placed_from place_from filter placed nth
+  unfolding placed_from place_from placed nth
   from-placed =
       by-fields (λ s. (k : ℕ) → placed_from low high k (fields s) ≡ rest_of k s (from low high s)) (λ s w k. rw (from_end s w, fields-end s w))
       (λ s w c a k. go s w k (a (k + size (front s))) (between low high (tag (front s))) refl)
@@ -164,7 +164,7 @@ module _ (low high : ℕ) where
 
   -- the fields of the range are the same with places and without
   pub placed_row : (n : ℕ) (fs : Fields) → map (λ p. p.this) (placed_from low high n fs) ≡ fields_from low high fs
-  unfolding placed_from placed fields_from filter row
+  unfolding placed_from placed fields_from row
   placed_row n (end r) = refl
   placed_row n (next f fs) = go (between low high (tag f)) (placed_row (n + size f) fs)
     where

@@ -80,7 +80,7 @@ funding-either m e f = go (is_credit f) (same_bytes (receiver f) m) (is_inflow e
     go false j k = refl
 
 funding-call : (m : List ℕ) (entry f : Field) → is_funding m entry f ≡ true → is_call f ≡ true
-unfolding is_funding is_credit method any same_bytes
+unfolding is_funding is_credit method same_bytes
 funding-call m entry f h = go (is_call f) refl
   where
     go : (k : Bool) → is_call f ≡ k → is_call f ≡ true
@@ -99,7 +99,7 @@ unfolding method
 no-name f z = chosen (λ x. x ≡ []) (eqb (tag f) Call && eqb (tag (part 0 f)) Member) (rw z refl) refl
 
 credit-name : (f : Field) → is_credit f ≡ true → part 1 (part 0 f) ≡ nothing → ⊥
-unfolding is_credit any same_bytes
+unfolding is_credit same_bytes
 credit-name f h z = cc (rw (no-name f z) at h)
 
 -- so it names its map behind two heads
@@ -164,7 +164,7 @@ module _ (p : Field → Bool) (s calls : List ℕ) where
 -- and what none before it funds, those from it on do
 pub awaited : (file : List ℕ) (e : Field) (calls : List ℕ) (m : List ℕ) →
     funded_by e (fields_at file (drop (position (is_funding_call e) (fields_at file calls)) calls)) m ≡ funded_by e (fields_at file calls) m
-unfolding position funded_by fields_at any
+unfolding position funded_by fields_at
 awaited file e [] m = refl
 awaited file e (k ∷ ks) m = go (is_funding_call e (front (drop k file))) refl (awaited file e ks m)
   where

@@ -54,7 +54,7 @@ abbrev credits : String → List ℕ → List ℕ
 credits how value = write ExpressionStatement (call "m" how (x ++ value))
 
 funded : List (List ℕ) → List (List ℕ)
-unfolding any all filter same_bytes known fields fields_to nth composite size sizes placed placed_from row fields_from flat_map is_expression is_statement is_wrapper entries params peel
+unfolding same_bytes known fields fields_to nth composite size sizes placed placed_from row fields_from flat_map is_expression is_statement is_wrapper entries params peel
     peel_first walk walk_parts stmt_exprs body_exprs exprs ident method receiver asset_amount_backer is_asset_parameter asset_params split_and split_each split_first negated
     negated_each negated_first conditions_of required_conditions opposite operator single beside_in_asset token_named tokens_named is_inflow is_credit is_funding funds
     ledger_funding_tokens funding_token
@@ -109,7 +109,7 @@ credits_other = write ExpressionStatement (call "w" "credit" (x ++ amount "a"))
 -- the set of m's tokens in files: the first comparison of those that name the same, and 2; where it is one, its token stands
 -- behind two heads
 funded_numbers : List (List ℕ) → List ℕ
-unfolding any all filter same_bytes known fields fields_to nth composite size sizes placed placed_from row fields_from flat_map is_expression is_statement is_wrapper entries params peel
+unfolding same_bytes known fields fields_to nth composite size sizes placed placed_from row fields_from flat_map is_expression is_statement is_wrapper entries params peel
     peel_first walk walk_parts stmt_exprs body_exprs exprs ident method receiver asset_amount_backer is_asset_parameter asset_params split_and split_each split_first negated negated_each
     negated_first conditions_of required_conditions opposite operator beside_in_asset token_named is_inflow is_credit is_funding token_of joined joined_all condition_number tokens_number
     funds funding_number

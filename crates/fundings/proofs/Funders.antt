@@ -47,7 +47,7 @@ ledger-all file m t e = record {
 
 module _ (file m : List ℕ) (found : ℕ) (t : List ℕ) (i : Ledger file m found t) where
   pub ledger-done : whole t ≡ false → found ≡ funding_number file m
-  unfolding filter joined_all
+  unfolding joined_all
   ledger-done w = rw w at i.left
 
   abbrev behind : List Placed
@@ -56,7 +56,7 @@ module _ (file m : List ℕ) (found : ℕ) (t : List ℕ) (i : Ledger file m fou
   module _ (w : whole t ≡ true) (k : ℕ)
       (f : k ≡ cond (funds m (front (drop (length file - length t) file))) (joined file found (tokens_number file (placed_at file (length file - length t)))) found) where
     entry-passed : joined_all file k (map (tokens_number file) (filter (λ p. funds m p.this) behind)) ≡ funding_number file m
-    unfolding filter joined_all
+    unfolding joined_all
     entry-passed = rw f (go (funds m (front t)) refl)
       where
         z : 0 + (length file - length t) ≡ length file - length t

@@ -150,7 +150,7 @@ joined-small file a b h k r e =
 -- Call by call
 
 one_call : (e f : Field) (m : List ℕ) → funded_by e (f ∷ []) m ≡ is_funding_call e f && same_bytes (receiver f) m
-unfolding funded_by any
+unfolding funded_by
 one_call e f m = or-false (is_funding m e f) ∙ funding-either m e f
 
 module _ (file : List ℕ) (e : Field) (further : ℕ) where
@@ -160,7 +160,7 @@ module _ (file : List ℕ) (e : Field) (further : ℕ) where
 
   module _ (calls table : List ℕ) (n : ℕ) where
     pub joining-none : Mapped table n → Joining calls table n 0 table n
-    unfolding funded_by any fields_at
+    unfolding funded_by fields_at
     joining-none p = joins-none file further table n p _ (λ m. refl)
 
     module _ (i : ℕ) (last : List ℕ) (r : ℕ) (j : Joining calls table n i last r) where
@@ -241,7 +241,7 @@ module _ (file : List ℕ) (n : ℕ) (h : Standing file n 0) (table : List ℕ) 
 
       -- and none at all where there is none
       pub joins-free : Mapped table j → k ≡ count → EntryJoins file n table j table j
-      unfolding funded_by fields_at any
+      unfolding funded_by fields_at
       joins-free p e =
           joins-none file (tokens_number file (placed_at file n)) table j p _
           (λ m. sym (behind_first m) ∙ rw (drop_of_length-le (take count calls) {i = k} short))

@@ -26,7 +26,6 @@ entries-stand file =
     (rw (take-length file) at (row-stands file 0 (length file)))
 
 filter-places : (f : Field → Bool) (ps : List Placed) → without_places (filter (λ p. f p.this) ps) ≡ filter f (without_places ps)
-unfolding filter
 filter-places f [] = refl
 filter-places f (p ∷ ps) = go (f p.this) (filter-places f ps)
   where

@@ -1,6 +1,6 @@
 -- The slots that are left, one by one: the first decides, or is passed over.
 use Rattle.std.proofs.Common.{ℕ, zero, suc, ◌%◌, ◌≤◌, ◌<◌, ◌≡◌, refl, sym, ap, ◌∙◌, Bool, true, false, List, [], ◌∷◌, arith, le-leb, length}
-use mathlib.Core.Option.{some}
+use Rattle.std.proofs.Common.{Some}
 use borrow.Author.Tests.{lt-leb}
 use Rattle.laws.specs.Lists.{all}
 use Rattle.grammar.specs.Grammar.{in_class, advance, complete}
@@ -45,7 +45,7 @@ module _ (row s : Slots) (tag : ℕ) (i : advance (slot_list s) tag ≡ advance 
     module _ (v : Bool) (k : v ≡ in_class (s.first % 16) tag) where
       pub stays : v ≡ true → 0x20 ≤ s.first → left_by (To s) ≡ advance (slot_list row) tag
       unfolding advance
-      stays h l = ap some (slots-cons s b n e) ∙ (rw (← k, h, le-leb 0x20 s.first l) at step)
+      stays h l = ap Some (slots-cons s b n e) ∙ (rw (← k, h, le-leb 0x20 s.first l) at step)
 
       pub moves : v ≡ true → s.first < 0x20 → left_by (To b) ≡ advance (slot_list row) tag
       unfolding advance
@@ -62,15 +62,15 @@ module _ (row s : Slots) (tag : ℕ) (i : advance (slot_list s) tag ≡ advance 
 -- and question 6
 module _ (row s : Slots) (i : complete (slot_list s) ≡ complete (slot_list row)) where
   pub complete-end : s.first ≡ 0 → true ≡ complete (slot_list row)
-  unfolding complete all
+  unfolding complete
   complete-end e = rw (slots-none s e) at i
 
   module _ (n : s.first ≡ 0 → ⊥) where
     module _ (b : Slots) (e : slot_list b ≡ up_to_zero (s.second ∷ s.third ∷ s.fourth ∷ 0 ∷ [])) where
       pub complete-on : 0x10 ≤ s.first → complete (slot_list b) ≡ complete (slot_list row)
-      unfolding complete all
+      unfolding complete
       complete-on l = rw (slots-cons s b n e, le-leb 0x10 s.first l) at i
 
     pub incomplete : s.first < 0x10 → false ≡ complete (slot_list row)
-    unfolding complete all
+    unfolding complete
     incomplete l = rw (one-first s.first (s.second ∷ s.third ∷ s.fourth ∷ []) n, lt-leb 0x10 s.first l) at i

@@ -1,6 +1,6 @@
 -- Which tags may stand where, and which parts are needed: the Model file as a table.
 use Rattle.std.specs.Prelude.{ℕ, ◌+◌, ◌%◌, Bool, cond, ◌&&◌, ◌||◌, List, [], ◌∷◌, leb, eqb}
-use Rattle.std.proofs.Math.Option.{Option, none, some}
+use Rattle.std.specs.Prelude.{Option, None, Some}
 use Rattle.laws.specs.Lists.{all}
 use Rattle.tags.specs.Tag.{Name, TypeName, Parameter, between, is_item, is_clause, is_statement, is_expression}
 
@@ -101,10 +101,10 @@ slots_of t = slots_in grammar t
 -- the slots that are left behind a part with tag t, if it may stand here: it goes into the first slot that takes it, and
 -- only slots that may stay empty are passed over
 unfoldable pub advance : List ℕ → ℕ → Option (List ℕ)
-advance [] t = none
+advance [] t = None
 advance (s ∷ ss) t =
-    cond (takes s t) (some (cond (goes_on s) (s ∷ ss) ss))
-    (cond (may_stay_empty s) (advance ss t) none)
+    cond (takes s t) (Some (cond (goes_on s) (s ∷ ss) ss))
+    (cond (may_stay_empty s) (advance ss t) None)
 
 -- whether every needed part was there, with these slots left
 unfoldable pub complete : List ℕ → Bool

@@ -1,6 +1,6 @@
 -- The slots that the code keeps by value, as the list of the grammar.
 use Rattle.std.specs.Prelude.{ℕ, zero, suc, List, [], ◌∷◌}
-use Rattle.std.proofs.Math.Option.{Option, none, some}
+use Rattle.std.specs.Prelude.{Option, None, Some}
 use Rattle.grammar.specs.declared.Slots.{Slots}
 use Rattle.grammar.specs.declared.Advanced.{Advanced}
 use Rattle.grammar.specs.declared.Advanced.TheVariants.{To, Refused}
@@ -16,5 +16,5 @@ slot_list s = up_to_zero (s.first ∷ s.second ∷ s.third ∷ s.fourth ∷ [])
 
 -- the answer to question 3: the slots that are left, or none
 abbrev pub left_by : Advanced → Option (List ℕ)
-left_by (To s) = some (slot_list s)
-left_by Refused = none
+left_by (To s) = Some (slot_list s)
+left_by Refused = None

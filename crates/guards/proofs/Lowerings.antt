@@ -174,14 +174,14 @@ module _ (amount : Field) (file r : List ℕ) where
 
   row-read : (n : ℕ) (fs : Fields) → Every (Stands file) (placed n fs) → n + sizes fs ≤ 65538 →
       lowered_in file r (many_of amount n fs) ≡ any (lowers amount r) (row fs)
-  unfolding flat_map placed sizes row any lowered_in
+  unfolding flat_map placed sizes row lowered_in
   row-read n (end z) e l = refl
   row-read n (next f fs) e l =
       one-read n f e.0 (omega (arith, size-least f)) (many_of amount (n + size f) fs) ∙ rw (row-read (n + size f) fs e.1 (omega arith))
 
 pub lowerings-decide : (amount : Field) (file : List ℕ) (place : ℕ) (r : List ℕ) → length file ≤ 32768 →
     lowered_in file r (lowering_numbers amount (placed_at file place)) ≡ any (lowers amount r) (body (front (drop place file)))
-unfolding lowering_numbers flat_map placed lowered_in any body fields_from row filter
+unfolding lowering_numbers flat_map placed lowered_in body fields_from row
 lowerings-decide amount file place r h = go (whole (drop place file)) refl
   where
     go : (w : Bool) → whole (drop place file) ≡ w →

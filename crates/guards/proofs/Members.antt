@@ -57,7 +57,7 @@ module _ (entry : Field) (z : any (same_bytes []) (asset_params entry) ≡ true)
       unnamed f (either_way (eqb (tag f) Member && same_bytes (text (part 1 f)) (bytes "amount")) (ident (part 0 f)) i)
 
   walked-first : (n : ℕ) (f : Field) → eqb (tag f) Identifier ≡ true → any (is_inflow entry) (without_places (walk n f)) ≡ true
-  unfolding any walk is_expression
+  unfolding walk is_expression
   walked-first n (field t x ps) e = rw (eqb-true t Identifier e) (or_left _ _ (identifier-unnamed (field 0x33 x ps) refl))
 
   inside : (n t : ℕ) (x : List ℕ) (ps : Fields) → is_inflow entry (field t x ps) ≡ false → any (is_inflow entry) (without_places (walk_parts n ps)) ≡ true
@@ -72,7 +72,7 @@ module _ (entry : Field) (z : any (same_bytes []) (asset_params entry) ≡ true)
       go false e = cc (base-decides (field t x (next f fs)) e)
 
   every-expression : (f : Field) → is_expression (tag f) ≡ contains_inflow entry f
-  unfolding contains_inflow any walk
+  unfolding contains_inflow walk
   every-expression (field t x ps) = go (is_expression t)
     where
       go : (k : Bool) → k ≡ any (is_inflow entry) (without_places (cond k (record { place = 0; this = field t x ps } ∷ walk_parts 3 ps) []))
@@ -89,7 +89,7 @@ nameless entry amount b e h t f r g = g ∙ rw f (every-expression (front entry)
 module _ (s table members : List ℕ) (count : ℕ) (l : Listed (places_of Member (walk 0 (front s))) table 0 members count) (k : length s ≤ 3 * length table) where
   -- each takes three bytes at least, so a table with a number for each three bytes has room for all
   members-few : 3 * length (places_of Member (walk 0 (front s))) ≤ length s
-  unfolding walk is_expression filter
+  unfolding walk is_expression
   members-few = go (whole s) refl
     where
       few : 3 * length (places_of Member (walk 0 (front s))) ≤ size (front s)

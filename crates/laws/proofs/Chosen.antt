@@ -2,7 +2,7 @@
 -- to take it out.
 use Rattle.std.proofs.Common.{ℕ, zero, suc, ◌≤◌, ◌<◌, ◌≡◌, refl, sym, ap, ◌∙◌, Bool, true, false, cond, not, ◌&&◌, ◌||◌, List, [], ◌∷◌, arith, ltb-true, ltb-false, ltb, length, get_or, set}
 use Rattle.std.proofs.Common.{get_or-set_same}
-use mathlib.Core.Option.{none, some}
+use Rattle.std.proofs.Common.{None, Some}
 use lib.ListN.{get_or-eq_default}
 use lib.Seq.{set_out}
 use Rattle.laws.specs.Lists.{any, find, remove_first}
@@ -75,25 +75,25 @@ module _ {A : Type 0} (d : A) where
     behind f = rw f at (e ∙ first_step (chosen_at p test (x ∷ xs)) (length xs))
 
   pub chosen-found : (p : ℕ → Bool) (test : A → Bool) (l : List A) (r : ℕ) → r ≡ first_from (chosen_at p test l) 0 (length l) → r < length l →
-      find test (chosen_by p l) ≡ some (get_or l r d)
-  unfolding find chosen_by
+      find test (chosen_by p l) ≡ Some (get_or l r d)
+  unfolding chosen_by
   chosen-found p test [] r e h = absurd (omega arith)
   chosen-found p test (x ∷ xs) r e h = go (p 0) (test x) refl refl (chosen-found (λ i. p (suc i)) test xs (tail p test xs) refl)
     where
       go : (j k : Bool) → p 0 ≡ j → test x ≡ k →
-          (tail p test xs < length xs → find test (chosen_by (λ i. p (suc i)) xs) ≡ some (get_or xs (tail p test xs) d)) →
-          find test (chosen_by p (x ∷ xs)) ≡ some (get_or (x ∷ xs) r d)
+          (tail p test xs < length xs → find test (chosen_by (λ i. p (suc i)) xs) ≡ Some (get_or xs (tail p test xs) d)) →
+          find test (chosen_by p (x ∷ xs)) ≡ Some (get_or (x ∷ xs) r d)
       go true true f g i = let z = here p test x xs r e (rw (f, g)) in rw (f, g, z)
       go true false f g i = let z = behind p test x xs r e (rw (f, g)) in rw (f, g, z) (i (omega (arith, z, h)))
       go false k f g i = let z = behind p test x xs r e (rw f) in rw (f, z) (i (omega (arith, z, h)))
 
-  pub chosen-not-found : (p : ℕ → Bool) (test : A → Bool) (l : List A) → length l ≤ first_from (chosen_at p test l) 0 (length l) → find test (chosen_by p l) ≡ none
-  unfolding find chosen_by
+  pub chosen-not-found : (p : ℕ → Bool) (test : A → Bool) (l : List A) → length l ≤ first_from (chosen_at p test l) 0 (length l) → find test (chosen_by p l) ≡ None
+  unfolding chosen_by
   chosen-not-found p test [] h = refl
   chosen-not-found p test (x ∷ xs) h = go (p 0) (test x) refl refl (chosen-not-found (λ i. p (suc i)) test xs)
     where
-      go : (j k : Bool) → p 0 ≡ j → test x ≡ k → (length xs ≤ tail p test xs → find test (chosen_by (λ i. p (suc i)) xs) ≡ none) →
-          find test (chosen_by p (x ∷ xs)) ≡ none
+      go : (j k : Bool) → p 0 ≡ j → test x ≡ k → (length xs ≤ tail p test xs → find test (chosen_by (λ i. p (suc i)) xs) ≡ None) →
+          find test (chosen_by p (x ∷ xs)) ≡ None
       go true true f g i = absurd (omega (arith, h, here p test x xs _ refl (rw (f, g))))
       go true false f g i = rw (f, g) (i (omega (arith, h, behind p test x xs _ refl (rw (f, g)))))
       go false k f g i = rw f (i (omega (arith, h, behind p test x xs _ refl (rw f))))
@@ -126,7 +126,7 @@ module _ {A : Type 0} (d : A) where
   -- and it is one of those whose marks are not set then, besides the earlier ones
   pub taken-chosen : (p q : ℕ → Bool) (test : A → Bool) (l : List A) (r : ℕ) → r < length l → Cleared p q r →
       any test (chosen_by (λ i. not (q i)) l) ≡ test (get_or l r d) || any test (chosen_by (λ i. not (p i)) l)
-  unfolding any chosen_by
+  unfolding chosen_by
   taken-chosen p q test [] r h c = absurd (omega arith)
   taken-chosen p q test (x ∷ xs) zero h c =
       rw (c.was, c.gone, chosen-same (λ k. not (q (suc k))) (λ k. not (p (suc k))) xs (λ k. ap not (c.kept (suc k) (λ n. omega (arith, n)))))

@@ -17,7 +17,6 @@ module _ {A : Type 0} where
     every_append (x ∷ xs) m p q = (p.0, every_append xs m p.1 q)
 
     pub every-filter : (f : A → Bool) (l : List A) → Every P l → Every P (filter f l)
-    unfolding filter
     every-filter f [] p = tt
     every-filter f (x ∷ xs) p = let q = every-filter f xs p.1 in chosen (Every P) (f x) (p.0, q) q
 
@@ -62,7 +61,6 @@ module _ {A : Type 0} where
 
 module _ {A : Type 0} where
   pub filter-append : (f : A → Bool) (l m : List A) → filter f (l ++ m) ≡ filter f l ++ filter f m
-  unfolding filter
   filter-append f [] m = refl
   filter-append f (x ∷ xs) m = go (f x) (filter-append f xs m)
     where
@@ -72,7 +70,6 @@ module _ {A : Type 0} where
       go false e = e
 
   pub filter-few : (f : A → Bool) (l : List A) → length (filter f l) ≤ length l
-  unfolding filter
   filter-few f [] = omega arith
   filter-few f (x ∷ l) =
       let h = filter-few f l in
@@ -80,7 +77,6 @@ module _ {A : Type 0} where
 
   -- none passes, so none is left
   pub filter_none : (p : A → Bool) (l : List A) → any p l ≡ false → filter p l ≡ []
-  unfolding any filter
   filter_none p [] h = refl
   filter_none p (x ∷ l) h = go (p x) refl (filter_none p l)
     where
@@ -90,7 +86,6 @@ module _ {A : Type 0} where
 
   -- to filter and then map is to map and then filter
   pub map-filter : {B : Type 0} (g : A → B) (f : B → Bool) (l : List A) → map g (filter (λ x. f (g x)) l) ≡ filter f (map g l)
-  unfolding filter
   map-filter g f [] = refl
   map-filter g f (x ∷ l) = go (f (g x)) (map-filter g f l)
     where
@@ -104,7 +99,6 @@ module _ {A : Type 0} where
 module _ {A : Type 0} where
   -- some element passes in one list or in the other
   pub any_append : (f : A → Bool) (l m : List A) → any f (l ++ m) ≡ any f l || any f m
-  unfolding any
   any_append f [] m = refl
   any_append f (x ∷ xs) m = go (f x) (any_append f xs m)
     where
@@ -118,7 +112,6 @@ module _ {A : Type 0} where
 
   -- one of the first n, by its number
   pub any-among : (p : A → Bool) (l : List A) (n k : ℕ) (d : A) → k < n → n ≤ length l → p (get_or l k d) ≡ true → any p (take n l) ≡ true
-  unfolding any
   any-among p [] n k d h w e = absurd (omega (arith, h, w))
   any-among p (x ∷ l) zero k d h w e = absurd (omega (arith, h))
   any-among p (x ∷ l) (suc n) zero d h w e = or_left (p x) _ e
@@ -126,31 +119,26 @@ module _ {A : Type 0} where
 
   -- a test that no element passes
   pub any_none : (p : A → Bool) → ((x : A) → p x ≡ false) → (l : List A) → any p l ≡ false
-  unfolding any
   any_none p f [] = refl
   any_none p f (x ∷ l) = rw (f x, any_none p f l)
 
   -- tests that agree
   pub any_same : (p q : A → Bool) → ((x : A) → p x ≡ q x) → (l : List A) → any p l ≡ any q l
-  unfolding any
   any_same p q f [] = refl
   any_same p q f (x ∷ l) = rw (f x, any_same p q f l)
 
   pub any-implied : (f g : A → Bool) → ((x : A) → f x ≡ true → g x ≡ true) → (l : List A) → any f l ≡ true → any g l ≡ true
-  unfolding any
   any-implied f g p [] e = e
   any-implied f g p (x ∷ xs) e =
       either (f x) (any f xs) (λ h. or_left (g x) (any g xs) (p x h))
       (λ h. or_right (g x) (any g xs) (any-implied f g p xs h)) e
 
   pub any-map : {B : Type 0} (f : A → B) (test : B → Bool) (l : List A) → any test (map f l) ≡ any (λ x. test (f x)) l
-  unfolding any
   any-map f test [] = refl
   any-map f test (x ∷ l) = rw (any-map f test l)
 
   -- some element that passes one test passes another
   pub any-filter : (p q : A → Bool) (l : List A) → any p (filter q l) ≡ any (λ x. q x && p x) l
-  unfolding any filter
   any-filter p q [] = refl
   any-filter p q (x ∷ l) = go (q x) (any-filter p q l)
     where
@@ -160,7 +148,6 @@ module _ {A : Type 0} where
       go false e = e
 
   pub all_append : (f : A → Bool) (l m : List A) → all f (l ++ m) ≡ all f l && all f m
-  unfolding all
   all_append f [] m = refl
   all_append f (x ∷ xs) m = go (f x) (all_append f xs m)
     where
@@ -171,7 +158,6 @@ module _ {A : Type 0} where
 -- to take only what passes a test first changes nothing, where a later test implies it
 module _ {A : Type 0} (f g : A → Bool) (implies : (x : A) → f x ≡ true → g x ≡ true) where
   pub filter-first : (l : List A) → filter f (filter g l) ≡ filter f l
-  unfolding filter
   filter-first [] = refl
   filter-first (x ∷ xs) = go (f x) (g x) refl refl (filter-first xs)
     where
@@ -183,7 +169,6 @@ module _ {A : Type 0} (f g : A → Bool) (implies : (x : A) → f x ≡ true →
       go false false p q e = e
 
   pub any-first : (l : List A) → any f (filter g l) ≡ any f l
-  unfolding any filter
   any-first [] = refl
   any-first (x ∷ xs) = go (f x) (g x) refl refl (any-first xs)
     where

@@ -13,15 +13,12 @@ seeking-all p l n r h e = record { within = omega arith; room = h; left = e }
 
 module _ (p : ℕ → Bool) (l : List ℕ) (n i : ℕ) (r : Bool) (v : Seeking p l n i r) where
   pub seeking-none : n ≤ i → false ≡ r
-  unfolding any
   seeking-none h =
       rw (drop_of_length-le (take n l) {i = i} (omega (arith, length-take-le n l v.room))) at v.left
 
   module _ (h : i < n) where
     pub seeking-found : p (get_or l i 0) ≡ true → true ≡ r
-    unfolding any
     seeking-found e = rw (step-within l n i v.room h, e) at v.left
 
     pub seeking-on : p (get_or l i 0) ≡ false → Seeking p l n (i + 1) r
-    unfolding any
     seeking-on e = record { within = omega arith; room = v.room; left = rw (step-within l n i v.room h, e) at v.left }

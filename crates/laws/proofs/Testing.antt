@@ -13,14 +13,11 @@ testing-none p l r e = record { within = omega arith; left = e }
 
 module _ (p : ℕ → Bool) (l : List ℕ) (i : ℕ) (r : Bool) (v : Testing p l i r) where
   pub testing-all : length l ≤ i → true ≡ r
-  unfolding all
   testing-all h = rw (drop_of_length-le l h) at v.left
 
   module _ (h : i < length l) (b : Bool) (e : b ≡ p (get_or l i 0)) where
     pub testing-fails : not b ≡ true → false ≡ r
-    unfolding all
     testing-fails n = rw (drop-step l i h, ← e, not-true b n) at v.left
 
     pub testing-on : not b ≡ false → Testing p l (i + 1) r
-    unfolding all
     testing-on n = record { within = omega arith; left = rw (drop-step l i h, ← e, not-false b n) at v.left }

@@ -3,7 +3,7 @@
 use Rattle.std.proofs.Common.{ℕ, ◌≡◌, refl, List, [], ◌∷◌, ◌++◌, map}
 use Prim.Native.String.{String}
 use mathlib.Core.List.{flat_map}
-use mathlib.Core.Option.{Option, none, some}
+use Rattle.std.proofs.Common.{Option, None, Some}
 use Rattle.laws.specs.Texts.{bytes}
 use Rattle.tags.specs.Tag.{Date, Call, Checked, Wrapping}
 use Rattle.fields.specs.Field.{fields}
@@ -46,9 +46,9 @@ one c v s ls = about (entry c) 0 v s ls
 abbrev spare_of : List ℕ → ℕ → Option ℕ
 spare_of file n =
     elim (verdict_on file n) [
-      | accepted cs ↦ some (spare (entry_at (fields file) n).this)
-      | rejected payout r ↦ none
-      | refused question place ↦ none
+      | accepted cs ↦ Some (spare (entry_at (fields file) n).this)
+      | rejected payout r ↦ None
+      | refused question place ↦ None
     ]
 
 -- what the definitions say of each row
@@ -64,34 +64,34 @@ stated rs = map (λ r. (r.verdict, r.spare, lines r.lines)) rs
 k : List Row
 k =
     -- K1 no send: ok
-    one (asset "a" ++ plain ++ debit n) (accepted []) (some 2) ("e 0 ok 0 2" ∷ []) ∷
+    one (asset "a" ++ plain ++ debit n) (accepted []) (Some 2) ("e 0 ok 0 2" ∷ []) ∷
     -- K2 send_asset with two arguments: ok, 0 payouts
-    one (asset "a" ++ statement (write Call (identifier "send_asset" ++ identifier "T" ++ caller))) (accepted []) (some 1) ("e 0 ok 0 1" ∷ []) ∷
+    one (asset "a" ++ statement (write Call (identifier "send_asset" ++ identifier "T" ++ caller))) (accepted []) (Some 1) ("e 0 ok 0 1" ∷ []) ∷
     -- K3 the file of 66 bytes as the rules print it
-    about k3 0 (accepted (equal_parameter 0 ∷ [])) (some 0) ("e 0 ok 1 0" ∷ "p 0 2 0" ∷ []) ∷
+    about k3 0 (accepted (equal_parameter 0 ∷ [])) (Some 0) ("e 0 ok 1 0" ∷ "p 0 2 0" ∷ []) ∷
     -- K4 a.amount sent twice: no 1
-    one (asset "a" ++ send (amount "a") ++ send (amount "a")) (rejected 1 amount_taken) none ("e 0 no 1" ∷ []) ∷
+    one (asset "a" ++ send (amount "a") ++ send (amount "a")) (rejected 1 amount_taken) None ("e 0 no 1" ∷ []) ∷
     -- K5 K3's entry with a guard in-asset == U: no 0
-    one (asset "a" ++ guard (holds "U") ++ send (amount "a")) (rejected 0 conflict_at_equal) none ("e 0 no 0" ∷ []) ∷
+    one (asset "a" ++ guard (holds "U") ++ send (amount "a")) (rejected 0 conflict_at_equal) None ("e 0 no 0" ∷ []) ∷
     -- K6 debit 10, send 1_0: kind 1; send 010: no 0
-    one (debit (integer "10") ++ send (integer "1_0")) (accepted (equal_debit 0 ∷ [])) (some 0) ("e 0 ok 1 0" ∷ "p 0 1 0" ∷ []) ∷
-    one (debit (integer "10") ++ send (integer "010")) (rejected 0 no_reserve) none ("e 0 no 0" ∷ []) ∷
+    one (debit (integer "10") ++ send (integer "1_0")) (accepted (equal_debit 0 ∷ [])) (Some 0) ("e 0 ok 1 0" ∷ "p 0 1 0" ∷ []) ∷
+    one (debit (integer "10") ++ send (integer "010")) (rejected 0 no_reserve) None ("e 0 no 0" ∷ []) ∷
     -- K7 debit n, send n/2: kind 3; wrapping(n-1): no 0; wrapping(checked(n-1)): kind 3
-    one (plain ++ debit n ++ send (half n)) (accepted (bounding_debit 0 ∷ [])) (some 0) ("e 0 ok 1 0" ∷ "p 0 3 0" ∷ []) ∷
-    one (plain ++ debit n ++ send (write Wrapping (less_one n))) (rejected 0 no_reserve) none ("e 0 no 0" ∷ []) ∷
-    one (plain ++ debit n ++ send (write Wrapping (write Checked (less_one n)))) (accepted (bounding_debit 0 ∷ [])) (some 0)
+    one (plain ++ debit n ++ send (half n)) (accepted (bounding_debit 0 ∷ [])) (Some 0) ("e 0 ok 1 0" ∷ "p 0 3 0" ∷ []) ∷
+    one (plain ++ debit n ++ send (write Wrapping (less_one n))) (rejected 0 no_reserve) None ("e 0 no 0" ∷ []) ∷
+    one (plain ++ debit n ++ send (write Wrapping (write Checked (less_one n)))) (accepted (bounding_debit 0 ∷ [])) (Some 0)
     ("e 0 ok 1 0" ∷ "p 0 3 0" ∷ []) ∷
     -- K8 debit a date, send it: no 0
-    one (debit (word Date "2026-11-10") ++ send (word Date "2026-11-10")) (rejected 0 no_reserve) none ("e 0 no 0" ∷ []) ∷
+    one (debit (word Date "2026-11-10") ++ send (word Date "2026-11-10")) (rejected 0 no_reserve) None ("e 0 no 0" ∷ []) ∷
     -- K9 debit n, send n/2 then n: no 1
-    one (plain ++ debit n ++ send (half n) ++ send n) (rejected 1 amount_taken) none ("e 0 no 1" ∷ []) ∷
+    one (plain ++ debit n ++ send (half n) ++ send n) (rejected 1 amount_taken) None ("e 0 no 1" ∷ []) ∷
     -- K10 send a.split(): no 0
-    one (asset "a" ++ send (member "a" "split" [])) (rejected 0 split_without_amount) none ("e 0 no 0" ∷ []) ∷
+    one (asset "a" ++ send (member "a" "split" [])) (rejected 0 split_without_amount) None ("e 0 no 0" ∷ []) ∷
     -- K11 state r default 0; another entry, with a, guards in-asset == T and does r += a.amount; here, with b as the only asset
     -- parameter, guard r >= b.amount*2, r -= b.amount*2, send b.amount*2: kind 5, spare 0
-    about k11 1 (accepted (reserve 0 ∷ [])) (some 0) ("e 0 ok 0 1" ∷ "e 1 ok 1 0" ∷ "p 0 5 0" ∷ []) ∷
+    about k11 1 (accepted (reserve 0 ∷ [])) (Some 0) ("e 0 ok 0 1" ∷ "e 1 ok 1 0" ∷ "p 0 5 0" ∷ []) ∷
     -- K12 as K11 with that in-asset guard written twice: no 0
-    about k12 1 (rejected 0 no_reserve) none ("e 0 ok 0 1" ∷ "e 1 no 0" ∷ []) ∷ []
+    about k12 1 (rejected 0 no_reserve) None ("e 0 ok 0 1" ∷ "e 1 no 0" ∷ []) ∷ []
 
 worked : computed k ≡ stated k
 unfolding computed k k3

@@ -1,7 +1,7 @@
 -- Each step of the answer is the definition's: the search finds what the definition finds, or leaves the rest to the next step.
 use Rattle.std.proofs.Common.{ℕ, ◌-◌, ◌≤◌, ◌<◌, ◌≡◌, refl, sym, ap, ◌∙◌, Bool, true, false, not, List, lt-ltb, le-ltb, eqb, ltb, get_or, drop}
-use mathlib.Core.Option.{Option}
-use mathlib.Core.Option.{none, some}
+use Rattle.std.proofs.Common.{Option}
+use Rattle.std.proofs.Common.{None, Some}
 use borrow.Author.Tests.{not-true, not-false}
 use Rattle.laws.specs.Texts.{same_bytes}
 use Rattle.laws.specs.Numbers.{down_from}
@@ -126,7 +126,7 @@ module _ (file : List ℕ) (en : Entry) (facts : List ℕ) (pass : Pass) (k : �
         unfolding backing_at
         equal-token = rw (← z) (sym g)
 
-        equal-found : find (equals payout) marks.free ≡ some (backing_at file en i)
+        equal-found : find (equals payout) marks.free ≡ Some (backing_at file en i)
         unfolding marks_of
         equal-found = free-some file en w.prepared.entered pass.marks (equal_to (payout_amount payout)) (equals payout) (equals-amount payout) i equal-first h
 
@@ -175,7 +175,7 @@ module _ (file : List ℕ) (en : Entry) (facts : List ℕ) (pass : Pass) (k : �
         unfolding backing_at
         bounding-token = rw (← z) (sym g)
 
-        bounding-found : find (bounds payout) marks.free ≡ some (backing_at file en i)
+        bounding-found : find (bounds payout) marks.free ≡ Some (backing_at file en i)
         unfolding marks_of
         bounding-found = free-some file en w.prepared.entered pass.marks (bounded_by (payout_amount payout)) (bounds payout) (bounds-amount payout) i bounding-first h
 
@@ -214,16 +214,16 @@ module _ (file : List ℕ) (en : Entry) (facts : List ℕ) (pass : Pass) (k : �
     reserve-none h = go covering refl
       where
         go : (o : Option (List ℕ)) → covering ≡ o → Rejected NoReserve ≡ coded (at_payout by_reserve file en pass.marks k)
-        go none o = sym (ap coded (no-reserve-step model entry marks payout (asked-for ∙ o)))
-        go (some n) o = cc
+        go None o = sym (ap coded (no-reserve-step model entry marks payout (asked-for ∙ o)))
+        go (Some n) o = cc
 
     pub reserve-covers : (i : ℕ) → r ≡ Covers i → (a : Answer) → a ≡ reserve_at pass.marks i → a ≡ coded (at_payout by_reserve file en pass.marks k)
     unfolding index_in state_index
     reserve-covers i h a j = go covering refl
       where
         go : (o : Option (List ℕ)) → covering ≡ o → a ≡ coded (at_payout by_reserve file en pass.marks k)
-        go none o = cc
-        go (some n) o =
+        go None o = cc
+        go (Some n) o =
             let z : i ≡ position (same_bytes n) (state_names model) = cc in
             j ∙ sym (used-coded i) ∙ rw z (sym (ap coded (reserve-step model entry marks payout n (asked-for ∙ o))))
 

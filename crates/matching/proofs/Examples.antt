@@ -54,7 +54,7 @@ run model entry s (p ∷ ps) =
 
 -- the last entry of a model, with what stands before it
 answers : List (List ℕ × List ℕ) → List (List (ℕ × ℕ))
-unfolding any all filter find remove_first position numbered same_bytes known fields fields_to nth composite size sizes placed placed_from row fields_from flat_map is_expression is_statement
+unfolding remove_first position numbered same_bytes known fields fields_to nth composite size sizes placed placed_from row fields_from flat_map is_expression is_statement
     is_wrapper is_assign entries params body genesis state_names peel peel_first walk walk_parts stmt_exprs body_exprs exprs guards ident method receiver is_debit is_payout
     asset_amount_backer is_asset_parameter asset_params debits payouts strip same_text expr_eq parts_eq split_and split_each split_first negated negated_each negated_first
     conditions_of required_conditions opposite operator goes_left wrapping_inside bounded_by_backing left_bounded single differ beside_in_asset token_named tokens_named

@@ -1,7 +1,7 @@
 -- What a search by number finds is what the definition finds among the free backings, or the taken ones.
 use Rattle.std.proofs.Common.{ℕ, ◌≤◌, ◌<◌, ◌≡◌, refl, sym, ap, ◌∙◌, Bool, true, false, List, arith, ltb-true, ltb-false, ltb, length}
 use mathlib.Core.Path.{fun_ext}
-use mathlib.Core.Option.{none, some}
+use Rattle.std.proofs.Common.{None, Some}
 use Rattle.laws.proofs.Finding.{any_some, any-not-found}
 use Rattle.laws.proofs.Lists.{any-map}
 use Rattle.laws.specs.Numbers.{chosen_by, first_from}
@@ -32,12 +32,12 @@ module _ (file : List ℕ) (en : Entry) (t : Entered file en) (m : Coded) (test 
   first-free = rw (backings-many file en t) (first-same _ _ en.total free-at)
 
   module _ (i : ℕ) (f : i ≡ first_free file en m test) where
-    pub free-some : i < en.total → find tests (chosen_by (free_at m) bs) ≡ some (backing_at file en i)
+    pub free-some : i < en.total → find tests (chosen_by (free_at m) bs) ≡ Some (backing_at file en i)
     free-some h =
         chosen-found no_backing (free_at m) tests bs i (f ∙ first-free) (omega (arith, backings-many file en t, h))
-        ∙ ap (λ b. some b) (backing-is file en t i h)
+        ∙ ap (λ b. Some b) (backing-is file en t i h)
 
-    pub free-none : en.total ≤ i → find tests (chosen_by (free_at m) bs) ≡ none
+    pub free-none : en.total ≤ i → find tests (chosen_by (free_at m) bs) ≡ None
     free-none h = chosen-not-found no_backing (free_at m) tests bs (omega (arith, backings-many file en t, h, f ∙ first-free))
 
   -- the taken ones

@@ -68,7 +68,7 @@ module _ (file : List ℕ) (en : Entry) (t : Entered file en) (m : Coded) (s : M
 
     pub backing-taken : Stands (backings_of file en.place) (without m i)
         (record { free = remove_first tests s.free; taken = (backing_at file en i).amount ∷ s.taken; used = s.used })
-    unfolding any marks_of used_at
+    unfolding marks_of used_at
     backing-taken = rw (without_is m i (omega (arith, h, t.few))) (record {
       free = ap (remove_first tests) v.free ∙ remove-chosen no_backing (free_at m) (free_at (cleared m i)) tests (backings_of file en.place) i first inside now-cleared;
       taken = taken-same;

@@ -1,6 +1,6 @@
 -- The definition's steps, one at a time: a search that finds something decides, and one that finds nothing leaves the rest.
 use Rattle.std.proofs.Common.{◌≡◌, Bool, true, false, List, ◌∷◌, ℕ, eqb}
-use mathlib.Core.Option.{none, some}
+use Rattle.std.proofs.Common.{None, Some}
 use Rattle.laws.specs.Lists.{any, find, remove_first, position}
 use Rattle.laws.specs.Texts.{same_bytes}
 use Rattle.fields.specs.Field.{Field, Fields}
@@ -24,12 +24,12 @@ module _ (model : Fields) (entry : Field) (s : Marks) (p : Field) where
   unfolding answer
   answer-step e = rw e
 
-  pub equal-step : (b : Backing) → find (equals p) s.free ≡ some b →
+  pub equal-step : (b : Backing) → find (equals p) s.free ≡ Some b →
       by_equal model entry s p ≡ take_backing s p (equals p) b (equal_cover b) conflict_at_equal
   unfolding by_equal
   equal-step b e = cc
 
-  pub no-equal-step : find (equals p) s.free ≡ none → by_equal model entry s p ≡ not_taken model entry s p
+  pub no-equal-step : find (equals p) s.free ≡ None → by_equal model entry s p ≡ not_taken model entry s p
   unfolding by_equal
   no-equal-step e = cc
 
@@ -41,21 +41,21 @@ module _ (model : Fields) (entry : Field) (s : Marks) (p : Field) where
   unfolding not_taken equal_to
   untaken-step e = rw e
 
-  pub bounding-step : (b : Backing) → find (bounds p) s.free ≡ some b →
+  pub bounding-step : (b : Backing) → find (bounds p) s.free ≡ Some b →
       by_bounding model entry s p ≡ take_backing s p (bounds p) b (bounding_cover b) conflict_at_bounding
   unfolding by_bounding
   bounding-step b e = cc
 
-  pub no-bounding-step : find (bounds p) s.free ≡ none → by_bounding model entry s p ≡ by_reserve model entry s p
+  pub no-bounding-step : find (bounds p) s.free ≡ None → by_bounding model entry s p ≡ by_reserve model entry s p
   unfolding by_bounding
   no-bounding-step e = cc
 
-  pub reserve-step : (r : List ℕ) → reserve_bounding_payout model entry (peel (payout_amount p)) (payout_token p) ≡ some r →
+  pub reserve-step : (r : List ℕ) → reserve_bounding_payout model entry (peel (payout_amount p)) (payout_token p) ≡ Some r →
       by_reserve model entry s p ≡ take_reserve s (position (same_bytes r) (state_names model))
   unfolding by_reserve
   reserve-step r e = cc
 
-  pub no-reserve-step : reserve_bounding_payout model entry (peel (payout_amount p)) (payout_token p) ≡ none → by_reserve model entry s p ≡ rejection no_reserve
+  pub no-reserve-step : reserve_bounding_payout model entry (peel (payout_amount p)) (payout_token p) ≡ None → by_reserve model entry s p ≡ rejection no_reserve
   unfolding by_reserve
   no-reserve-step e = cc
 

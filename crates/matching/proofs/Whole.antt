@@ -1,8 +1,8 @@
 -- The answer for a payout, with the marks after it: each way that the definition goes, the code's answer is the same with the
 -- marks in any order, and the marks that the code hands back stand for the definition's.
 use Rattle.std.proofs.Common.{ℕ, ◌+◌, ◌-◌, ◌≤◌, ◌<◌, ◌≡◌, refl, sym, ap, ◌∙◌, Bool, true, false, List, arith, ltb-true, ltb-false, eqb, ltb}
-use mathlib.Core.Option.{Option}
-use mathlib.Core.Option.{none, some}
+use Rattle.std.proofs.Common.{Option}
+use Rattle.std.proofs.Common.{None, Some}
 use Rattle.laws.specs.Lists.{any, find, position}
 use Rattle.laws.specs.Texts.{same_bytes}
 use Rattle.fields.specs.Field.{Field, Fields, fields}
@@ -115,8 +115,8 @@ module _ (file : List ℕ) (en : Entry) (t : Entered file en) (m : Coded) (room 
   fits-reserve = go (reserve_bounding_payout model entry (peel (payout_amount p)) (payout_token p)) refl
     where
       go : (o : Option (List ℕ)) → reserve_bounding_payout model entry (peel (payout_amount p)) (payout_token p) ≡ o → Fits (by_reserve model entry s p) (by_reserve model entry marks p)
-      go none e = rw (no-reserve-step model entry s p e, no-reserve-step model entry marks p e) (record { same = refl; good = tt })
-      go (some r) e = rw (reserve-step model entry s p r e, reserve-step model entry marks p r e) (fits-use (position (same_bytes r) (state_names model)))
+      go None e = rw (no-reserve-step model entry s p e, no-reserve-step model entry marks p e) (record { same = refl; good = tt })
+      go (Some r) e = rw (reserve-step model entry s p r e, reserve-step model entry marks p r e) (fits-use (position (same_bytes r) (state_names model)))
 
   -- the first free backing that bounds the amount, or the rest
   abbrev bounding : ℕ

@@ -1,6 +1,6 @@
 -- Payout by payout, the cover of each.
 use Rattle.std.specs.Prelude.{ℕ, Bool, false, cond, List, [], ◌∷◌, ◌++◌, map, eqb}
-use Rattle.std.proofs.Math.Option.{none, some}
+use Rattle.std.specs.Prelude.{None, Some}
 use Rattle.laws.specs.Lists.{any, find, remove_first, position, numbered}
 use Rattle.laws.specs.Texts.{same_bytes}
 use Rattle.fields.specs.Field.{Field, Fields, part}
@@ -92,13 +92,13 @@ take_reserve s i =
 unfoldable pub by_reserve : Fields → Field → Marks → Field → Answer
 by_reserve model entry s p =
     elim (reserve_bounding_payout model entry (peel (payout_amount p)) (payout_token p))
-    [ none ↦ rejection no_reserve | some r ↦ take_reserve s (position (same_bytes r) (state_names model)) ]
+    [ None ↦ rejection no_reserve | Some r ↦ take_reserve s (position (same_bytes r) (state_names model)) ]
 
 -- the first free backing that bounds the amount; else a reserve
 unfoldable pub by_bounding : Fields → Field → Marks → Field → Answer
 by_bounding model entry s p =
     elim (find (bounds p) s.free)
-    [ none ↦ by_reserve model entry s p | some b ↦ take_backing s p (bounds p) b (bounding_cover b) conflict_at_bounding ]
+    [ None ↦ by_reserve model entry s p | Some b ↦ take_backing s p (bounds p) b (bounding_cover b) conflict_at_bounding ]
 
 -- reject if a taken backing equals the amount
 unfoldable pub not_taken : Fields → Field → Marks → Field → Answer
@@ -109,7 +109,7 @@ not_taken model entry s p =
 unfoldable pub by_equal : Fields → Field → Marks → Field → Answer
 by_equal model entry s p =
     elim (find (equals p) s.free)
-    [ none ↦ not_taken model entry s p | some b ↦ take_backing s p (equals p) b (equal_cover b) conflict_at_equal ]
+    [ None ↦ not_taken model entry s p | Some b ↦ take_backing s p (equals p) b (equal_cover b) conflict_at_equal ]
 
 -- the answer for a payout: reject a split without an amount; else in the order above
 unfoldable pub answer : Fields → Field → Marks → Field → Answer

@@ -1,6 +1,6 @@
 -- A "no" to one of questions 1 to 9 is the answer; past them it is the reserve of the payout, by its number.
 use Rattle.std.proofs.Common.{ℕ, ◌≡◌, refl, sym, ap, ◌∙◌, List, le-ltb, lt-ltb, length}
-use mathlib.Core.Option.{Option, none, some}
+use Rattle.std.proofs.Common.{Option, None, Some}
 use Rattle.fields.specs.Field.{Fields, fields}
 use Rattle.model.specs.Model.{entries}
 use Rattle.questions.specs.Questions.{ask_file}
@@ -25,13 +25,13 @@ use Rattle.payout_reserve.specs.declared.ReserveAnswer.TheVariants.{Refused, Cov
 
 -- the number of the state field that was found
 told : Option ℕ → ReserveAnswer
-told (some index) = covered index
-told none = uncovered
+told (Some index) = covered index
+told None = uncovered
 
 told-found : (model : Fields) (o : Option (List ℕ)) → told (index_in model o) ≡ covered_by model o
 unfolding told index_in covered_by
-told-found model none = refl
-told-found model (some r) = refl
+told-found model None = refl
+told-found model (Some r) = refl
 
 -- Question 9
 

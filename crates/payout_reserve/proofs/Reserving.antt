@@ -2,7 +2,7 @@
 -- table, which has room for all.
 use Rattle.std.proofs.Common.{ℕ, ◌≤◌, ◌<◌, ◌≡◌, refl, ap, ◌∙◌, false, ◌&&◌, List, [], arith, length, get_or, set, replicate, take}
 use mathlib.Core.Bool.{and-false}
-use mathlib.Core.Option.{Option, none}
+use Rattle.std.proofs.Common.{Option, None}
 use lib.ListN.{length-replicate, get_or-eq_default}
 use Rattle.laws.specs.Texts.{known, same_bytes}
 use Rattle.laws.specs.Lists.{any}
@@ -37,11 +37,11 @@ unfolding reserve_covers known
 unasked model entry amount r =
     rw (and-false (contains_inflow entry amount && any (same_bytes r) (state_names model) && any (same_bytes r) (guarded_by entry amount) && any (lowers amount r) (body entry)))
 
-none_found : (model : Fields) (entry amount : Field) → reserve_bounding_payout model entry amount [] ≡ none
+none_found : (model : Fields) (entry amount : Field) → reserve_bounding_payout model entry amount [] ≡ None
 unfolding reserve_bounding_payout
 none_found model entry amount = find_none (reserve_covers model entry amount []) (unasked model entry amount) (guarded_by entry amount)
 
-unpaid : (model : Fields) (entry : Field) (k : ℕ) → payout_at model entry k ≡ nothing → none ≡ index_in model (payout_reserve model entry k)
+unpaid : (model : Fields) (entry : Field) (k : ℕ) → payout_at model entry k ≡ nothing → None ≡ index_in model (payout_reserve model entry k)
 unfolding payout_reserve index_in
 unpaid model entry k e = rw (e, no-token, none_found model entry _)
 
@@ -80,7 +80,7 @@ module _ (file : List ℕ) (place : ℕ) (calls : List ℕ) (c : CallsOf file pl
   counted : m ≡ length (payouts entry)
   counted = where-counted file place calls c is_payout payout-call (replicate most_fields 0) table m p ∙ ap length (payouts-where (placed_at file place))
 
-  pub payout-missing : (k : ℕ) → m ≤ k → none ≡ index_in model (payout_reserve model entry k)
+  pub payout-missing : (k : ℕ) → m ≤ k → None ≡ index_in model (payout_reserve model entry k)
   payout-missing k h = unpaid model entry k (get_or-eq_default (payouts entry) nothing (omega (arith, h, counted)))
 
   few : m ≤ length (replicate {A = ℕ} most_fields 0)

@@ -1,7 +1,7 @@
 -- The answer about the state field that covers a payout by itself: questions 1 to 9 come first, as they do before
 -- a verdict.
 use Rattle.std.specs.Prelude.{ℕ, List}
-use Rattle.std.proofs.Math.Option.{Option, none, some}
+use Rattle.std.specs.Prelude.{Option, None, Some}
 use Rattle.fields.specs.Field.{Fields, fields}
 use Rattle.questions.specs.Questions.{passes, fails, ask_file}
 use Rattle.reserves.specs.States.{state_index}
@@ -18,8 +18,8 @@ pub data ReserveAnswer : Type 0 where
 
 -- the state field that was found, by its number
 unfoldable pub covered_by : Fields → Option (List ℕ) → ReserveAnswer
-covered_by model none = uncovered
-covered_by model (some r) = covered (state_index model r)
+covered_by model None = uncovered
+covered_by model (Some r) = covered (state_index model r)
 
 -- payout k of entry n, of a file that passes questions 1 to 8: question 9, and then the reserve; a payout that is not there has none
 unfoldable pub entry_reserve : Fields → (n k : ℕ) → ReserveAnswer

@@ -1,7 +1,7 @@
 -- The questions of a field by its tag and content, and of a row of fields one at a time.
 use Rattle.std.proofs.Common.{ℕ, suc, ◌+◌, ◌-◌, ◌*◌, ◌≤◌, ◌<◌, ◌≡◌, refl, sym, ap, ap₂, ◌∙◌, Bool, true, false, cond, not, ◌&&◌, ◌||◌, List, [], ◌∷◌, arith, add-zero, leb-true, leb-false}
 use Rattle.std.proofs.Common.{lt-ltb, le-ltb, ltb-false, leb, ltb, length, take, drop}
-use mathlib.Core.Option.{none, some}
+use Rattle.std.proofs.Common.{None, Some}
 use Rattle.laws.specs.Lists.{all}
 use Rattle.laws.specs.Texts.{known}
 use Rattle.laws.proofs.Numbers.{implied}
@@ -30,11 +30,11 @@ use Rattle.questions.specs.declared.check.Answer.TheVariants as answer
 
 -- a field with parts has no text, and one without needs no parts
 no_text : (t : ℕ) → t < 256 → composite t ≡ true → content_allowed t [] ≡ true
-unfolding composite content_allowed is_text known all
+unfolding composite content_allowed is_text known
 no_text = implied composite (λ t. content_allowed t []) 256 refl
 
 no-parts : (t : ℕ) → t < 256 → not (composite t) ≡ true → complete (slots_of t) ≡ true
-unfolding composite complete all grammar slots_in
+unfolding composite complete grammar slots_in
 no-parts = implied (λ t. not (composite t)) (λ t. complete (slots_of t)) 256 refl
 
 then-passes : (a : Asked) → (a and_then passes) ≡ a
@@ -94,23 +94,23 @@ module _ (t : ℕ) (l : t < 256) (x : List ℕ) (place depth : ℕ) where
 
 -- A row of fields, from the one at a place on
 module _ (ss : List ℕ) (outer depth place : ℕ) (s : List ℕ) where
-  refused-with : (f : Field) (fs : Fields) → advance ss (tag f) ≡ none → ask_fields ss outer depth place (next f fs) ≡ fails 3 place
+  refused-with : (f : Field) (fs : Fields) → advance ss (tag f) ≡ None → ask_fields ss outer depth place (next f fs) ≡ fails 3 place
   unfolding ask_fields
   refused-with f fs k = cc
 
-  goes-on-with : (f : Field) (fs : Fields) (left : List ℕ) → advance ss (tag f) ≡ some left →
+  goes-on-with : (f : Field) (fs : Fields) (left : List ℕ) → advance ss (tag f) ≡ Some left →
       ask_fields ss outer depth place (next f fs) ≡ (ask_field depth place f and_then ask_fields left outer depth (place + size f) fs)
   unfolding ask_fields
   goes-on-with f fs left k = cc
 
   module _ (w : whole s ≡ true) where
-    row-refused : advance ss (tag_of s) ≡ none → ask_fields ss outer depth place (fields s) ≡ fails 3 place
+    row-refused : advance ss (tag_of s) ≡ None → ask_fields ss outer depth place (fields s) ≡ fails 3 place
     row-refused k =
         ap (ask_fields ss outer depth place) (fields-next s w)
         ∙ refused-with (front s) (fields (after s)) (rw (← tag-front s (tag_of s) w refl) k)
 
     -- the questions of the first field, then those of the others
-    row-goes-on : (left : List ℕ) → advance ss (tag_of s) ≡ some left → ask_fields ss outer depth place (fields s)
+    row-goes-on : (left : List ℕ) → advance ss (tag_of s) ≡ Some left → ask_fields ss outer depth place (fields s)
         ≡ (ask_field depth place (field_with (tag_of s) (content s)) and_then ask_fields left outer depth (place + (3 + length_of s)) (fields (after s)))
     row-goes-on left k =
         ap (ask_fields ss outer depth place) (fields-next s w)

@@ -103,7 +103,7 @@ examples =
     answers (times 64 (entry [])) passes ∷ []
 
 found : List Example → List Asked
-unfolding any all filter same_bytes known is_item is_clause is_statement is_expression is_text composite fields fields_to nth row
+unfolding same_bytes known is_item is_clause is_statement is_expression is_text composite fields fields_to nth row
     fields_from size sizes placed placed_from states entries in_class grammar slots_in advance complete content_allowed ask_field
     ask_fields ask_names at_most ask_form ask_file
 found es = map (λ e. ask_file e.file) es

@@ -33,7 +33,7 @@ pub record Naming (file lent table t : List ℕ) (base at alarms : ℕ) : Type 0
   pub room : 3 * alarms ≤ at
 
 pub naming-all : (file lent : List ℕ) (base : ℕ) → Naming file lent lent file base 0 0
-unfolding states state_names fields_from filter end_of row
+unfolding states state_names fields_from end_of row
 naming-all file lent base = record {
   within = omega arith;
   here = refl;
@@ -58,7 +58,7 @@ module _ (file : List ℕ) (at : ℕ) (e : end_of (fields (take at file)) ≡ []
   later : placed_from State State at (fields there)
       ≡ cond (between State State (tag_of there)) (record { place = at; this = front there } ∷ placed_from State State after-there (fields (after there)))
       (placed_from State State after-there (fields (after there)))
-  unfolding placed_from placed filter
+  unfolding placed_from placed
   later = ap (placed_from State State at) (fields-next there w) ∙ rw (tag-there, front-size there w)
 
   names : state_names (fields (take after-there file)) ≡ names_with (state_names (fields (take at file))) there
@@ -93,7 +93,7 @@ right-answer file allowed a e = record { answers = λ b f. cc (e, f); crowds = �
 
 module _ (file lent table t : List ℕ) (base at alarms : ℕ) (i : Naming file lent table t base at alarms) where
   pub naming-done : whole t ≡ false → (allowed : ℕ) → Decided file allowed (compared.All answer.Passes)
-  unfolding ask_names placed_from placed filter
+  unfolding ask_names placed_from placed
   naming-done w allowed = right-answer file allowed answer.Passes (rw (fields-end t w) at i.left)
 
   module _ (v : Bool) (o : v ≡ whole t) (w : v ≡ true) where

@@ -116,7 +116,6 @@ abbrev pub repeats : List (List ℕ) → List ℕ → Bool
 repeats names s = eqb (tag_of s) State && any (same_bytes (name_of (front s))) names
 
 pub noted-none : (base : ℕ) (t : List ℕ) → Noted base [] t
-unfolding any
 noted-none base t = record { shown = λ name e. cc }
 
 module _ (base : ℕ) (names : List (List ℕ)) (t : List ℕ) (i : Noted base names t) where
@@ -129,7 +128,6 @@ module _ (base : ℕ) (names : List (List ℕ)) (t : List ℕ) (i : Noted base n
       go false h = h
 
   noted_more : (name : List ℕ) → Noted base (names ++ name ∷ []) (with_number t (text_number base name))
-  unfolding any
   noted_more name = record { shown = λ x e. go x (any (same_bytes x) names) refl (rw (any_append (same_bytes x) names (name ∷ []), or-false) at e) }
     where
       go : (x : List ℕ) (k : Bool) → any (same_bytes x) names ≡ k → k || same_bytes x name ≡ true →

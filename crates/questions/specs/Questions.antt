@@ -1,6 +1,6 @@
 -- Questions 1 to 8, about the file.
 use Rattle.std.specs.Prelude.{ℕ, suc, ◌+◌, Bool, true, false, cond, ◌&&◌, ◌||◌, not, List, [], ◌∷◌, ◌++◌, leb, length, drop}
-use Rattle.std.proofs.Math.Option.{none, some}
+use Rattle.std.specs.Prelude.{None, Some}
 use Rattle.laws.specs.Lists.{any, all}
 use Rattle.laws.specs.Texts.{same_bytes, known}
 use Rattle.tags.specs.Tag.{between, is_expression, is_text}
@@ -48,8 +48,8 @@ unfoldable mutual
   ask_fields slots outer depth place (end (x ∷ xs)) = fails 2 place
   ask_fields slots outer depth place (next f fs) =
       elim (advance slots (tag f)) [
-        | none ↦ fails 3 place
-        | some left ↦ ask_field depth place f and_then ask_fields left outer depth (place + size f) fs
+        | None ↦ fails 3 place
+        | Some left ↦ ask_field depth place f and_then ask_fields left outer depth (place + size f) fs
       ]
 
 -- question 7: the first state field whose name an earlier one has

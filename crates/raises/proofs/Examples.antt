@@ -22,7 +22,7 @@ checked e = write Checked e
 -- Zero
 
 zeros : List (List ℕ) → List Bool
-unfolding all fields fields_to nth composite is_wrapper peel peel_first is_zero
+unfolding fields fields_to nth composite is_wrapper peel peel_first is_zero
 zeros es = map (λ e. is_zero (front e)) es
 
 -- 0, underscores around it, the empty text, two digits, no digit, and a zero inside wrappers
@@ -45,7 +45,7 @@ abbrev first : ℕ → String → List ℕ → List ℕ
 first how target e = write Genesis (write how (identifier target ++ e))
 
 starts : List (List ℕ) → List Bool
-unfolding all filter same_bytes fields fields_to nth composite row fields_from is_wrapper is_assign genesis ident peel peel_first assigns is_zero defaults genesis_values starts_at_zero
+unfolding same_bytes fields fields_to nth composite row fields_from is_wrapper is_assign genesis ident peel peel_first assigns is_zero defaults genesis_values starts_at_zero
 starts models = map (λ m. starts_at_zero (fields m) (bytes "r")) models
 
 -- no default, a zero one, another field's, zero at genesis, another field's value there

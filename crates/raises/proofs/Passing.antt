@@ -13,14 +13,11 @@ module _ (low high : ℕ) (p : Field → Bool) where
 
   module _ (t : List ℕ) (r : Bool) (i : Passing low high p t r) where
     pub passing-end : whole t ≡ false → true ≡ r
-    unfolding all
     passing-end w = rw w at i.left
 
     module _ (w : whole t ≡ true) where
       pub passing-fails : p (front t) ≡ false → false ≡ r
-      unfolding all
       passing-fails h = rw (w, h) at i.left
 
       pub passing-on : p (front t) ≡ true → (y x : List ℕ) → y ≡ after t → x ≡ from low high y → Passing low high p x r
-      unfolding all
       passing-on h y x e f = passing-all y x r f (rw e (rw (w, h) at i.left))

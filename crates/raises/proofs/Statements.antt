@@ -24,7 +24,7 @@ module _ (r : List ℕ) where
       go false false = refl
 
   raise-each : (l : List Field) → flat_map (raise r) (filter (assigns r) l) ≡ map (raised_by r) (filter (is_raise r) l)
-  unfolding flat_map filter is_raise
+  unfolding flat_map is_raise
   raise-each [] = refl
   raise-each (s ∷ l) = go (assigns r s) (not (eqb (tag s) SubtractFrom || sets_from Sub r s)) (one-raise s) (raise-each l)
     where

@@ -12,7 +12,7 @@ use Rattle.raises.proofs.Passing.{Passing, passing-all}
 
 module _ (r : List ℕ) where
   default-each : (l : List Field) → all (default_passes r) l ≡ all is_zero (filter present (map (part 2) (filter (λ s. same_bytes (name_of s) r) l)))
-  unfolding all filter default_passes
+  unfolding default_passes
   default-each [] = refl
   default-each (s ∷ l) = go (same_bytes (name_of s) r) (present (part 2 s)) refl (default-each l)
     where
@@ -24,7 +24,7 @@ module _ (r : List ℕ) where
       go false k p e = e
 
   genesis-each : (l : List Field) → all (genesis_passes r) l ≡ all is_zero (map (part 1) (filter (assigns r) (map (part 0) l)))
-  unfolding all filter genesis_passes
+  unfolding genesis_passes
   genesis-each [] = refl
   genesis-each (s ∷ l) = go (assigns r (part 0 s)) (genesis-each l)
     where

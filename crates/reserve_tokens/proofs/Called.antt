@@ -32,7 +32,7 @@ calls-read file n j h table calls count l k =
 
 -- only calls are of the two kinds
 credit-call : (f : Field) → is_credit f ≡ true → is_call f ≡ true
-unfolding is_credit method any same_bytes
+unfolding is_credit method same_bytes
 credit-call f h = go (is_call f) refl
   where
     go : (k : Bool) → is_call f ≡ k → is_call f ≡ true
@@ -62,7 +62,7 @@ credited-any entry v fs e = rw e (any-first (with_amount is_credit v) is_call (a
 -- The first call that passes
 
 first-first : (p q : Field → Bool) → ((f : Field) → p f ≡ true → q f ≡ true) → (l : List Field) → first_of p (filter q l) ≡ first_of p l
-unfolding first_of filter
+unfolding first_of
 first-first p q implies [] = refl
 first-first p q implies (x ∷ xs) = go (p x) (q x) refl refl (first-first p q implies xs)
   where

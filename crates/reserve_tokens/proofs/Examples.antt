@@ -66,7 +66,7 @@ abbrev funding : String → String → List ℕ
 funding m t = taking (write Limits (holds t) ++ calls m "credit" amount)
 
 held : List (List ℕ) → List (List ℕ)
-unfolding any all filter find same_bytes known fields fields_to nth composite size sizes placed placed_from row fields_from flat_map is_assign is_expression is_statement is_wrapper genesis
+unfolding same_bytes known fields fields_to nth composite size sizes placed placed_from row fields_from flat_map is_assign is_expression is_statement is_wrapper genesis
     entries params body peel peel_first walk walk_parts stmt_exprs body_exprs exprs guards ident method receiver is_debit asset_amount_backer is_asset_parameter asset_params debits
     expr_eq parts_eq strip same_text split_and split_each split_first negated negated_each negated_first conditions_of required_conditions opposite operator single beside_in_asset
     token_named tokens_named is_inflow is_credit is_funding funds ledger_funding_tokens funding_token assigns value sets_from is_zero defaults genesis_values starts_at_zero raise

@@ -17,7 +17,7 @@ unfoldable pub only_of : ℕ → List ℕ → ℕ
 only_of found ks = only_number (filter (λ k. not (eqb k 0)) (found ∷ ks))
 
 only-alone : (a : ℕ) → a ≡ only_of a []
-unfolding only_of filter only_number
+unfolding only_of only_number
 only-alone a = go (eqb a 0) refl
   where
     go : (b : Bool) → eqb a 0 ≡ b → a ≡ only_of a []
@@ -25,12 +25,12 @@ only-alone a = go (eqb a 0) refl
     go false e = rw e
 
 only_none : (ks : List ℕ) → only_of 0 ks ≡ only_number (filter (λ k. not (eqb k 0)) ks)
-unfolding only_of filter
+unfolding only_of
 only_none ks = refl
 
 module _ (file : List ℕ) (a b : ℕ) (ks : List ℕ) where
   only-two : not (eqb a 0) && not (eqb b 0) ≡ true → 0 ≡ only_of a (b ∷ ks)
-  unfolding only_of filter only_number
+  unfolding only_of only_number
   only-two e = go (eqb a 0) (eqb b 0) refl refl
     where
       go : (i j : Bool) → eqb a 0 ≡ i → eqb b 0 ≡ j → 0 ≡ only_of a (b ∷ ks)
@@ -40,7 +40,7 @@ module _ (file : List ℕ) (a b : ℕ) (ks : List ℕ) where
 
   -- of two that are not both there the one that is
   only-on : not (eqb a 0) && not (eqb b 0) ≡ false → only_of (joined file a b) ks ≡ only_of a (b ∷ ks)
-  unfolding only_of filter
+  unfolding only_of
   only-on e = go (eqb a 0) (eqb b 0) refl refl
     where
       go : (i j : Bool) → eqb a 0 ≡ i → eqb b 0 ≡ j → only_of (joined file a b) ks ≡ only_of a (b ∷ ks)

@@ -15,7 +15,7 @@ unfoldable held : List ℕ → List (List ℕ) → List ℕ
 held found ts = cond (known found) (single (found ∷ ts)) (single ts)
 
 held-alone : (a : List ℕ) → a ≡ held a []
-unfolding held known single all
+unfolding held known single
 held-alone [] = refl
 held-alone (x ∷ xs) = refl
 
@@ -25,7 +25,7 @@ held_none ts = refl
 
 module _ (a t : List ℕ) (ts : List (List ℕ)) where
   unknown-held : known t ≡ false → [] ≡ held a (t ∷ ts)
-  unfolding held single all known
+  unfolding held single known
   unknown-held e = go (known a) refl t e
     where
       none : (k : Bool) → [] ≡ cond {A = List ℕ} k [] []
@@ -38,7 +38,7 @@ module _ (a t : List ℕ) (ts : List (List ℕ)) where
       go false p (x ∷ xs) q = cc
 
   held-barred : bars a t ≡ true → [] ≡ held a (t ∷ ts)
-  unfolding bars differ held single all
+  unfolding bars differ held single
   held-barred e = go (known t) (known a) (same_bytes a t) refl refl refl
     where
       go : (i j k : Bool) → known t ≡ i → known a ≡ j → same_bytes a t ≡ k → [] ≡ held a (t ∷ ts)
@@ -48,7 +48,7 @@ module _ (a t : List ℕ) (ts : List (List ℕ)) where
       go true false k p q r = cc
 
   held_on : bars a t ≡ false → held t ts ≡ held a (t ∷ ts)
-  unfolding bars differ held single all
+  unfolding bars differ held single
   held_on e = go (known t) (known a) (same_bytes a t) refl refl refl
     where
       go : (i j k : Bool) → known t ≡ i → known a ≡ j → same_bytes a t ≡ k → held t ts ≡ held a (t ∷ ts)

@@ -2,7 +2,7 @@
 -- agree on for the one token of all.
 use Rattle.std.proofs.Common.{ℕ, ◌+◌, ◌-◌, ◌≤◌, ◌≡◌, refl, sym, ap, ◌∙◌, Bool, true, false, cond, not, List, [], ◌∷◌, map, arith, le-leb, ne_eqb, eqb, length, drop}
 use mathlib.Core.List.{flat_map, map-append}
-use mathlib.Core.Option.{Option, none, some}
+use Rattle.std.proofs.Common.{Option, None, Some}
 use Rattle.laws.specs.Lists.{filter, find}
 use Rattle.laws.specs.Texts.{known}
 use Rattle.laws.proofs.Lists.{Every, every-filter}
@@ -80,7 +80,6 @@ module _ (file : List ℕ) where
   tokens gs = filter known (map guard_token (map (part 0) (without_places gs)))
 
   guards-tokens : (gs : List Placed) → Every (Stands file) gs → map (token_of file) (named gs) ≡ tokens gs
-  unfolding filter
   guards-tokens [] e = refl
   guards-tokens (g ∷ gs) e = go (known (guard_token (part 0 g.this))) (guard-named g) (guards-tokens gs e.1)
     where
@@ -113,12 +112,12 @@ module _ (file : List ℕ) where
       go (is_inflow entry.this v) (credited entry.this v) (find (λ d. expr_eq (peel (part 2 d)) v) (debits entry.this))
     where
       go : (i j : Bool) (o : Option Field) →
-          token_of file (cond i (cond j 0 (only_number (guard_numbers file entry))) (elim o [ none ↦ 0 | some d ↦ funding_number file (receiver d) ]))
-          ≡ cond i (cond j [] (only (guard_tokens entry.this))) (elim o [ none ↦ [] | some d ↦ funding_token (fields file) (receiver d) ])
+          token_of file (cond i (cond j 0 (only_number (guard_numbers file entry))) (elim o [ None ↦ 0 | Some d ↦ funding_number file (receiver d) ]))
+          ≡ cond i (cond j [] (only (guard_tokens entry.this))) (elim o [ None ↦ [] | Some d ↦ funding_token (fields file) (receiver d) ])
       go true true o = sym none_of
       go true false o = guards-token entry s
-      go false j none = sym none_of
-      go false j (some d) = funding-token file (receiver d)
+      go false j None = sym none_of
+      go false j (Some d) = funding-token file (receiver d)
 
   raises-token : (entry : Placed) → Stands file entry → (vs : List Field) →
       map (token_of file) (map (raise_number file entry) vs) ≡ map (raise_token (fields file) entry.this) vs

@@ -1,6 +1,6 @@
 -- The number of a raise is that of a debit's map or of a guard, and those of an entry are found statement by statement.
 use Rattle.std.proofs.Common.{ℕ, ◌≡◌, refl, sym, ◌∙◌, Bool, true, false, cond, not, ◌&&◌, List, [], ◌∷◌, map, eqb-true, drop}
-use mathlib.Core.Option.{none, some}
+use Rattle.std.proofs.Common.{None, Some}
 use borrow.Author.Tests.{not-true, not-false}
 use Rattle.laws.specs.Lists.{filter, find, any}
 use Rattle.laws.proofs.Lists.{filter_none}
@@ -31,15 +31,15 @@ debit-present v f h = rw (eqb-true (tag f) Call (amount-call is_debit debit-call
 
 module _ (file : List ℕ) (v : Field) where
   debit-each : (l : List Field) →
-      elim (find (λ d. expr_eq (peel (part 2 d)) v) (filter is_debit l)) [ none ↦ 0 | some d ↦ funding_number file (receiver d) ]
+      elim (find (λ d. expr_eq (peel (part 2 d)) v) (filter is_debit l)) [ None ↦ 0 | Some d ↦ funding_number file (receiver d) ]
       ≡ map_number file (first_of (with_amount is_debit v) l)
-  unfolding find filter first_of with_amount map_number
+  unfolding first_of with_amount map_number
   debit-each [] = refl
   debit-each (f ∷ l) = go (is_debit f) (expr_eq (peel (part 2 f)) v) refl refl (debit-each l) (debit-present v f)
     where
       Same : List Field → Field → Type 0
       Same l d =
-          elim (find (λ d. expr_eq (peel (part 2 d)) v) l) [ none ↦ 0 | some d ↦ funding_number file (receiver d) ]
+          elim (find (λ d. expr_eq (peel (part 2 d)) v) l) [ None ↦ 0 | Some d ↦ funding_number file (receiver d) ]
           ≡ cond (present d) (funding_number file (receiver d)) 0
 
       go : (j k : Bool) → is_debit f ≡ j → expr_eq (peel (part 2 f)) v ≡ k → Same (filter is_debit l) (first_of (with_amount is_debit v) l) →
@@ -97,7 +97,7 @@ none-raised file r entry h = rw (raises-chosen r entry.this, filter_none (is_rai
 
 -- nor has one without a statement that sets or adds
 pub none-assigned : (file r : List ℕ) (entry : Placed) (p : List ℕ) → fields p ≡ parts entry.this → whole (from Set AddTo p) ≡ false → numbers_in file r entry ≡ []
-unfolding numbers_in body filter
+unfolding numbers_in body
 none-assigned file r entry p e w =
     let z : filter (is_raise r) (fields_from Guard ExpressionStatement (fields p)) ≡ [] =
     sym (raises-only r (fields p)) ∙ rw (from_row Set AddTo p, w) refl in

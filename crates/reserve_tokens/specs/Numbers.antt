@@ -2,7 +2,7 @@
 -- of ReserveTokens.antt the number of what it says.
 use Rattle.std.specs.Prelude.{ℕ, ◌+◌, cond, not, eqb, length}
 use mathlib.Core.List.{List, [], ◌∷◌, map, flat_map}
-use Rattle.std.proofs.Math.Option.{none, some}
+use Rattle.std.specs.Prelude.{None, Some}
 use Rattle.laws.specs.Lists.{filter, find}
 use Rattle.laws.specs.Texts.{known}
 use Rattle.tags.specs.Tag.{Guard}
@@ -36,7 +36,7 @@ only_number (k ∷ l ∷ ls) = 0
 -- of the map of the first caller debit of an amount
 unfoldable pub debit_number : List ℕ → Field → Field → ℕ
 debit_number file entry v =
-    elim (find (λ d. expr_eq (peel (part 2 d)) v) (debits entry)) [ none ↦ 0 | some d ↦ funding_number file (receiver d) ]
+    elim (find (λ d. expr_eq (peel (part 2 d)) v) (debits entry)) [ None ↦ 0 | Some d ↦ funding_number file (receiver d) ]
 
 -- of a raise by v
 unfoldable pub raise_number : List ℕ → Placed → Field → ℕ

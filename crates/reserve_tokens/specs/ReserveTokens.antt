@@ -1,7 +1,7 @@
 -- The token that a state field holds.
 use Rattle.std.specs.Prelude.{ℕ, Bool, cond, ◌&&◌, eqb}
 use mathlib.Core.List.{List, [], ◌∷◌, map, flat_map}
-use Rattle.std.proofs.Math.Option.{none, some}
+use Rattle.std.specs.Prelude.{None, Some}
 use Rattle.laws.specs.Lists.{any, filter, find}
 use Rattle.laws.specs.Texts.{known}
 use Rattle.tags.specs.Tag.{Eq}
@@ -34,7 +34,7 @@ only (t ∷ u ∷ us) = []
 -- the funding token of the map of the first caller debit of that amount
 unfoldable pub debit_token : Fields → Field → Field → List ℕ
 debit_token model entry v =
-    elim (find (λ d. expr_eq (peel (part 2 d)) v) (debits entry)) [ none ↦ [] | some d ↦ funding_token model (receiver d) ]
+    elim (find (λ d. expr_eq (peel (part 2 d)) v) (debits entry)) [ None ↦ [] | Some d ↦ funding_token model (receiver d) ]
 
 -- the token of a raise by v; none bars the field. A raise by `p.amount` is never looked for among the debits
 unfoldable pub raise_token : Fields → Field → Field → List ℕ

@@ -2,7 +2,7 @@
 -- that is tried stands in such a guard, and the amount contains what comes in.
 use Rattle.std.proofs.Common.{ℕ, ◌≤◌, ◌≡◌, refl, ap, ◌∙◌, Bool, true, false, ◌&&◌, ◌||◌, List, [], ◌∷◌, map, length, drop}
 use mathlib.Core.Bool.{and-false}
-use mathlib.Core.Option.{none}
+use Rattle.std.proofs.Common.{None}
 use Rattle.laws.proofs.Texts.{bytes_same}
 use Rattle.laws.specs.Texts.{same_bytes, known}
 use Rattle.laws.specs.Lists.{any, filter, find}
@@ -28,7 +28,6 @@ use Rattle.reserves.specs.Covers.{index_in, asked_reserve, field_covers, first_c
 -- The field of a guard stands among those of all
 
 each-among : (l : List (List ℕ)) → Every (λ r. any (same_bytes r) l ≡ true) l
-unfolding any
 each-among [] = tt
 each-among (x ∷ l) = (
   rw (bytes_same x),
@@ -66,15 +65,15 @@ module _ (file : List ℕ) (place : ℕ) (asked : List ℕ) (k : ℕ) where
   abbrev covering : List ℕ → Bool
   covering r = reserve_covers (fields file) entry amount token r
 
-  none-covers : ((r : List ℕ) → covering r ≡ false) → none ≡ asked_reserve file place asked k
+  none-covers : ((r : List ℕ) → covering r ≡ false) → None ≡ asked_reserve file place asked k
   unfolding reserve_bounding_payout index_in
   none-covers h = rw (find_none covering h (guarded_by entry amount))
 
-  pub none-contained : contains_inflow entry amount ≡ false → none ≡ asked_reserve file place asked k
+  pub none-contained : contains_inflow entry amount ≡ false → None ≡ asked_reserve file place asked k
   unfolding reserve_covers
   none-contained i = none-covers (λ r. rw i)
 
-  pub unknown-token : known token ≡ false → none ≡ asked_reserve file place asked k
+  pub unknown-token : known token ≡ false → None ≡ asked_reserve file place asked k
   unfolding reserve_covers
   unknown-token u =
       none-covers (λ r. rw (
@@ -83,8 +82,8 @@ module _ (file : List ℕ) (place : ℕ) (asked : List ℕ) (k : ℕ) where
             && any (lowers amount r) (body entry)),
       ))
 
-  pub no-guard : bounding amount (parts entry) ≡ [] → none ≡ asked_reserve file place asked k
-  unfolding reserve_bounding_payout index_in find
+  pub no-guard : bounding amount (parts entry) ≡ [] → None ≡ asked_reserve file place asked k
+  unfolding reserve_bounding_payout index_in
   no-guard e = rw (← bounding-fields entry amount, e)
 
   pub all-contained : length file ≤ 32768 → contains_inflow entry amount ≡ true →

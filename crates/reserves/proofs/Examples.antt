@@ -1,9 +1,9 @@
 -- The definitions computed on examples: which guard and which assignment let a state field cover a payout.
 use Rattle.std.proofs.Common.{ℕ, ◌≡◌, refl, List, [], ◌∷◌, ◌++◌, map, length, Bool, true, false}
-use mathlib.Core.Option.{Option}
+use Rattle.std.proofs.Common.{Option}
 use Prim.Native.String.{String}
 use mathlib.Core.List.{flat_map}
-use mathlib.Core.Option.{none, some}
+use Rattle.std.proofs.Common.{None, Some}
 use Rattle.laws.specs.Lists.{any, all, filter, find}
 use Rattle.laws.specs.Texts.{same_bytes, bytes, known}
 use Rattle.tags.specs.Tag.{State, Entry, Parameter, Guard, Set, AddTo, SubtractFrom, InAsset, Member, Checked, Wrapping, And, Eq, Lt, Gt, Le, Ge, Sub, Mul, composite, is_assign}
@@ -73,7 +73,7 @@ abbrev lowered : List ℕ
 lowered = write SubtractFrom (r ++ double)
 
 covering : List ℕ → List ℕ → List (List ℕ) → List (Option (List ℕ))
-unfolding any all filter find same_bytes known fields fields_to nth composite size sizes placed placed_from row fields_from flat_map is_assign is_expression is_statement is_wrapper
+unfolding same_bytes known fields fields_to nth composite size sizes placed placed_from row fields_from flat_map is_assign is_expression is_statement is_wrapper
     state_names genesis entries params body peel peel_first walk walk_parts stmt_exprs body_exprs exprs guards ident method receiver is_debit asset_amount_backer is_asset_parameter
     asset_params debits expr_eq parts_eq strip same_text single beside_in_asset is_inflow is_credit contains_inflow guarded_field guarded_amount guarded_by assigns value
     contains_wrapping sets_from lowered_by lowers is_zero defaults genesis_values starts_at_zero raise raises credited guard_token guard_tokens only debit_token raise_token
@@ -85,7 +85,7 @@ abbrev covered : List (List ℕ) → List (Option (List ℕ))
 covered bodies = covering double (bytes "T") (map taking bodies)
 
 abbrev yes : Option (List ℕ)
-yes = some (bytes "r")
+yes = Some (bytes "r")
 
 -- Guards
 
@@ -102,7 +102,7 @@ guards-that-do-not : covered
     (lowered ∷ (guard (write Gt (double ++ r)) ++ lowered) ∷ (guard (write Ge (double ++ r)) ++ lowered) ∷ (guard (write Lt (r ++ double)) ++ lowered)
     ∷ (guard (write Eq (r ++ double)) ++ lowered) ∷ (guard (write And (write Ge (r ++ double) ++ n)) ++ lowered) ∷ (guard (write Ge (r ++ amount_of "b")) ++ lowered)
     ∷ (guard (write Ge (n ++ double)) ++ write SubtractFrom (n ++ double)) ∷ [])
-    ≡ none ∷ none ∷ none ∷ none ∷ none ∷ none ∷ none ∷ none ∷ []
+    ≡ None ∷ None ∷ None ∷ None ∷ None ∷ None ∷ None ∷ None ∷ []
 unfolding covering
 guards-that-do-not = refl
 
@@ -123,7 +123,7 @@ assignments-that-do-not : covered
     ∷ (guarded ++ write SubtractFrom (s ++ double)) ∷ (guarded ++ write Set (r ++ write Sub (s ++ double))) ∷ (guarded ++ write SubtractFrom (r ++ amount_of "b"))
     ∷ (guarded ++ write SubtractFrom (r ++ wrapping double)) ∷ (guarded ++ write SubtractFrom (r ++ write Mul (amount_of "b" ++ wrapping (integer "2"))))
     ∷ (guarded ++ write Set (r ++ write Sub (wrapping r ++ double))) ∷ [])
-    ≡ none ∷ none ∷ none ∷ none ∷ none ∷ none ∷ none ∷ none ∷ none ∷ none ∷ []
+    ≡ None ∷ None ∷ None ∷ None ∷ None ∷ None ∷ None ∷ None ∷ None ∷ None ∷ []
 unfolding covering
 assignments-that-do-not = refl
 
@@ -138,12 +138,12 @@ whole-amount = refl
 no-amount : covering n (bytes "T") (taking (guard (write Ge (r ++ n)) ++ write SubtractFrom (r ++ n)) ∷ [])
     ++ (covering (amount_of "n") (bytes "T") (taking (guard (write Ge (r ++ amount_of "n")) ++ write SubtractFrom (r ++ amount_of "n")) ∷ [])
     ++ covering double (bytes "T") (write Entry (name "g" ++ (guarded ++ lowered)) ∷ []))
-    ≡ none ∷ none ∷ none ∷ []
+    ≡ None ∷ None ∷ None ∷ []
 unfolding covering
 no-amount = refl
 
 -- another token than the one r holds, and one that is not known
-other-tokens : covering double (bytes "U") (taking (guarded ++ lowered) ∷ []) ++ covering double [] (taking (guarded ++ lowered) ∷ []) ≡ none ∷ none ∷ []
+other-tokens : covering double (bytes "U") (taking (guarded ++ lowered) ∷ []) ++ covering double [] (taking (guarded ++ lowered) ∷ []) ≡ None ∷ None ∷ []
 unfolding covering
 other-tokens = refl
 
@@ -161,7 +161,7 @@ first-that-covers = refl
 
 -- of the entry behind `before`, which takes 106 bytes; 24 stand before the entry's first guard, and a guard takes 33
 numbers : List (List ℕ) → List (List ℕ)
-unfolding same_bytes any fields fields_to nth composite size sizes placed flat_map is_assign is_expression is_wrapper peel peel_first walk walk_parts ident expr_eq parts_eq strip same_text
+unfolding same_bytes fields fields_to nth composite size sizes placed flat_map is_assign is_expression is_wrapper peel peel_first walk walk_parts ident expr_eq parts_eq strip same_text
     assigns value contains_wrapping sets_from lowered_by is_lowering lowering_at lowering_numbers number_from
 numbers bodies = map (λ c. lowering_numbers (front double) (placed_at (before ++ taking c) (length before))) bodies
 
@@ -170,7 +170,7 @@ lowerings-listed : numbers
     ((guarded ++ lowered) ∷ lowered ∷ (guarded ++ write SubtractFrom (r ++ n)) ∷ (guarded ++ write AddTo (r ++ double)) ∷ (lowered ++ write SubtractFrom (s ++ double))
     ∷ [])
     ≡ (35659 ∷ 163 ∷ []) ∷ (35659 ∷ 130 ∷ []) ∷ [] ∷ [] ∷ (35659 ∷ 130 ∷ 60692 ∷ 160 ∷ []) ∷ []
-unfolding numbers filter
+unfolding numbers
 lowerings-listed = refl
 
 -- whether a table of one lowering, of that number, lowers r or s

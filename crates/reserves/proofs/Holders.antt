@@ -1,7 +1,7 @@
 -- The state fields that guards name, by their numbers: the first that holds the token is the first that covers.
 use Rattle.std.proofs.Common.{ℕ, zero, suc, ◌+◌, ◌-◌, ◌≤◌, ◌<◌, ◌≡◌, refl, sym, ap, ◌∙◌, Bool, true, false, not, cond, ◌&&◌, List, [], ◌∷◌, map, arith}
 use Rattle.std.proofs.Common.{get_or, set, length, length-set, get_or-set_other, eqb, ne_eqb, drop, drop_of_length-le}
-use mathlib.Core.Option.{Option, none, some}
+use Rattle.std.proofs.Common.{Option, None, Some}
 use Rattle.laws.specs.Texts.{same_bytes}
 use Rattle.laws.specs.Lists.{any, find, position}
 use Rattle.laws.proofs.Texts.{bytes-equal}
@@ -20,7 +20,7 @@ use Rattle.reserves.specs.Covers.{index_in, field_covers, first_covering, lowere
 -- One guard
 
 named-there : (r : List ℕ) (l : List (List ℕ)) → any (same_bytes r) l ≡ true → get_or l (position (same_bytes r) l) [] ≡ r
-unfolding any position
+unfolding position
 named-there r [] h = cc
 named-there r (x ∷ l) h = go (same_bytes r x) refl (named-there r l)
   where
@@ -42,14 +42,14 @@ module _ (file token l : List ℕ) where
 
   -- a field covers where it is lowered and the one of its number holds the token
   by-number : (r : List ℕ) (left : Option ℕ) →
-      cond (field_covers file token l r) (some (index r)) left ≡ first_holding file token (lowered_number file l r ∷ []) left
+      cond (field_covers file token l r) (Some (index r)) left ≡ first_holding file token (lowered_number file l r ∷ []) left
   unfolding field_covers first_holding is_held lowered_number state_number
   by-number r left = go (lowered_in file r l) (any (same_bytes r) (state_names (fields file))) (own-token r)
     where
       go : (i j : Bool) → (j ≡ true → holds_token file token (index r) ≡ holds r) →
-          cond (i && j && holds r) (some (index r)) left
+          cond (i && j && holds r) (Some (index r)) left
           ≡ cond (not (eqb (cond i (cond j (1 + index r) 0) 0) 0) && holds_token file token (cond i (cond j (1 + index r) 0) 0 - 1))
-          (some (cond i (cond j (1 + index r) 0) 0 - 1)) left
+          (Some (cond i (cond j (1 + index r) 0) 0 - 1)) left
       go true true e =
           let z : 1 + index r - 1 ≡ index r = omega arith in
           rw (ne_eqb (1 + index r) 0 (λ o. omega (arith, o)), z, e refl)
@@ -57,12 +57,12 @@ module _ (file token l : List ℕ) where
       go false j e = refl
 
   one-more : (g : Field) (gs : List Field) (r : List ℕ) → r ≡ guarded_field (part 0 g) →
-      first_covering file token l (g ∷ gs) ≡ cond (field_covers file token l r) (some (state_index (fields file) r)) (first_covering file token l gs)
-  unfolding first_covering find index_in
+      first_covering file token l (g ∷ gs) ≡ cond (field_covers file token l r) (Some (state_index (fields file) r)) (first_covering file token l gs)
+  unfolding first_covering index_in
   one-more g gs r e = rw (← e) (go (field_covers file token l r))
     where
-      go : (k : Bool) → index_in (fields file) (cond k (some r) (find (field_covers file token l) (map (λ g. guarded_field (part 0 g)) gs)))
-          ≡ cond k (some (state_index (fields file) r)) (index_in (fields file) (find (field_covers file token l) (map (λ g. guarded_field (part 0 g)) gs)))
+      go : (k : Bool) → index_in (fields file) (cond k (Some r) (find (field_covers file token l) (map (λ g. guarded_field (part 0 g)) gs)))
+          ≡ cond k (Some (state_index (fields file) r)) (index_in (fields file) (find (field_covers file token l) (map (λ g. guarded_field (part 0 g)) gs)))
       go true = refl
       go false = refl
 
@@ -81,19 +81,19 @@ module _ (file token : List ℕ) where
   unfolding first_holding
   holding-set [] n h u k left = absurd (omega (arith, h))
   holding-set (x ∷ ns) zero h u k left =
-      ap (λ o. cond (is_held file token k) (some (k - 1)) o) (holding-none ns (λ i. u (suc i) (omega arith)) left)
+      ap (λ o. cond (is_held file token k) (Some (k - 1)) o) (holding-none ns (λ i. u (suc i) (omega arith)) left)
       ∙ sym (holding-none (x ∷ ns) (λ i. u i (omega arith)) (first_holding file token (k ∷ []) left))
   holding-set (x ∷ ns) (suc n) h u k left = rw (holding-set ns n (omega (arith, h)) (λ i l. u (suc i) (omega (arith, l))) k left)
 
   -- the first that holds it is found before those that are left
-  holding-or : (ns : List ℕ) (left : Option ℕ) → first_holding file token ns left ≡ elim (first_holding file token ns none) [ none ↦ left | some i ↦ some i ]
+  holding-or : (ns : List ℕ) (left : Option ℕ) → first_holding file token ns left ≡ elim (first_holding file token ns None) [ None ↦ left | Some i ↦ Some i ]
   unfolding first_holding
   holding-or [] left = refl
   holding-or (n ∷ ns) left = go (is_held file token n) (holding-or ns left)
     where
-      go : (k : Bool) → first_holding file token ns left ≡ elim (first_holding file token ns none) [ none ↦ left | some i ↦ some i ] →
-          cond k (some (n - 1)) (first_holding file token ns left)
-          ≡ elim (cond k (some (n - 1)) (first_holding file token ns none)) [ none ↦ left | some i ↦ some i ]
+      go : (k : Bool) → first_holding file token ns left ≡ elim (first_holding file token ns None) [ None ↦ left | Some i ↦ Some i ] →
+          cond k (Some (n - 1)) (first_holding file token ns left)
+          ≡ elim (cond k (Some (n - 1)) (first_holding file token ns None)) [ None ↦ left | Some i ↦ Some i ]
       go true e = refl
       go false e = e
 
@@ -145,7 +145,7 @@ module _ (file l : List ℕ) (amount : Field) (guards lent : List ℕ) where
         here : (token : List ℕ) → first_covering file token l (bounding_from amount t) ≡ first_holding file token (number ∷ []) (first_covering file token l (bounding_from amount u))
         here token =
             let z : first_covering file token l (bounding_from amount t)
-            ≡ cond (field_covers file token l r) (some (state_index (fields file) r)) (first_covering file token l (bounding amount (fields (after t)))) =
+            ≡ cond (field_covers file token l r) (Some (state_index (fields file) r)) (first_covering file token l (bounding amount (fields (after t)))) =
             rw w (one-more file token l (front t) (bounding amount (fields (after t))) r (b ∙ rw a refl)) in
             z ∙ rw (f, ← o, e) (by-number file token l r (first_covering file token l (bounding amount (fields (after t)))))
 
@@ -154,22 +154,22 @@ module _ (file l : List ℕ) (amount : Field) (guards lent : List ℕ) where
 -- none of those that were passed holds the token
 pub record Holding (file token numbers : List ℕ) (i : ℕ) : Type 0 where
   pub within : i ≤ length numbers
-  pub left : first_holding file token (drop i numbers) none ≡ first_holding file token numbers none
+  pub left : first_holding file token (drop i numbers) None ≡ first_holding file token numbers None
 
 pub holding-all : (file token numbers : List ℕ) → Holding file token numbers 0
 holding-all file token numbers = record { within = omega arith; left = refl }
 
 module _ (file token numbers : List ℕ) (i : ℕ) (v : Holding file token numbers i) where
-  pub holding-end : length numbers ≤ i → none ≡ first_holding file token numbers none
+  pub holding-end : length numbers ≤ i → None ≡ first_holding file token numbers None
   unfolding first_holding
   holding-end h = rw (drop_of_length-le numbers {i = i} h) at v.left
 
   module _ (h : i < length numbers) (n : ℕ) (e : n ≡ get_or numbers i 0) where
-    here : cond (is_held file token n) (some (n - 1)) (first_holding file token (drop (i + 1) numbers) none) ≡ first_holding file token numbers none
+    here : cond (is_held file token n) (Some (n - 1)) (first_holding file token (drop (i + 1) numbers) None) ≡ first_holding file token numbers None
     unfolding first_holding
     here = rw (drop-step numbers i h, ← e) at v.left
 
-    pub holding-found : is_held file token n ≡ true → some (n - 1) ≡ first_holding file token numbers none
+    pub holding-found : is_held file token n ≡ true → Some (n - 1) ≡ first_holding file token numbers None
     holding-found g = rw g at here
 
     pub holding-on : is_held file token n ≡ false → Holding file token numbers (i + 1)
@@ -190,11 +190,11 @@ module _ (file l : List ℕ) (amount : Field) (guards left numbers : List ℕ) (
   abbrev rest : Option ℕ
   rest = first_covering file token l (bounding_from amount left)
 
-  by-first : elim (first_holding file token numbers none) [ none ↦ rest | some i ↦ some i ] ≡ all
+  by-first : elim (first_holding file token numbers None) [ None ↦ rest | Some i ↦ Some i ] ≡ all
   by-first = sym (v.first token ∙ holding-or file token numbers rest)
 
-  pub some-covers : (i : ℕ) → some i ≡ first_holding file token numbers none → some i ≡ all
+  pub some-covers : (i : ℕ) → Some i ≡ first_holding file token numbers None → Some i ≡ all
   some-covers i e = rw (← e) at by-first
 
-  pub none-covers : none ≡ first_holding file token numbers none → rest ≡ all
+  pub none-covers : None ≡ first_holding file token numbers None → rest ≡ all
   none-covers e = rw (← e) at by-first

@@ -1,6 +1,6 @@
 -- The state field that covers a payout, by its number among all.
 use Rattle.std.specs.Prelude.{ℕ, ◌-◌, ◌<◌, ◌≡◌, Bool, cond, not, ◌&&◌, List, [], ◌∷◌, map, eqb, length}
-use Rattle.std.proofs.Math.Option.{Option, none, some}
+use Rattle.std.specs.Prelude.{Option, None, Some}
 use Rattle.laws.specs.Lists.{any, find}
 use Rattle.laws.specs.Texts.{same_bytes}
 use Rattle.fields.specs.Field.{Field, Fields, fields, part}
@@ -19,13 +19,13 @@ use Rattle.reserves.specs.declared.covering.Reserve.TheVariants.{Covers, Nothing
 
 -- of each answer of the code the number, if a state field covers
 abbrev pub index_of : Reserve → Option ℕ
-index_of (Covers i) = some i
-index_of Nothing = none
+index_of (Covers i) = Some i
+index_of Nothing = None
 
 -- of the state field that was found, if one was
 unfoldable pub index_in : Fields → Option (List ℕ) → Option ℕ
-index_in model none = none
-index_in model (some r) = some (state_index model r)
+index_in model None = None
+index_in model (Some r) = Some (state_index model r)
 
 -- of the one that covers payout k of a table, in the entry at a place
 abbrev pub asked_reserve : (file : List ℕ) (place : ℕ) (table : List ℕ) (k : ℕ) → Option ℕ
@@ -55,7 +55,7 @@ is_held file token n = not (eqb n 0) && holds_token file token (n - 1)
 -- the first of some numbers whose state field does, counted from 0; where none does, one of those that are left
 unfoldable pub first_holding : (file token numbers : List ℕ) → Option ℕ → Option ℕ
 first_holding file token [] left = left
-first_holding file token (n ∷ ns) left = cond (is_held file token n) (some (n - 1)) (first_holding file token ns left)
+first_holding file token (n ∷ ns) left = cond (is_held file token n) (Some (n - 1)) (first_holding file token ns left)
 
 -- the guards that bound the amount are listed from one on by their numbers, as far as others that are left
 pub record Ahead (file lowerings : List ℕ) (amount : Field) (guards left numbers : List ℕ) : Type 0 where

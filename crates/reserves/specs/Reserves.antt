@@ -1,6 +1,6 @@
 -- The state fields that cover a payout.
 use Rattle.std.specs.Prelude.{ℕ, Bool, ◌&&◌, List}
-use Rattle.std.proofs.Math.Option.{Option}
+use Rattle.std.specs.Prelude.{Option}
 use Rattle.laws.specs.Lists.{any, find}
 use Rattle.laws.specs.Texts.{same_bytes, known}
 use Rattle.fields.specs.Field.{Field, Fields}

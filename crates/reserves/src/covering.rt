@@ -8,7 +8,7 @@ ghost use Rattle.guards.specs.Bounding.{bounding_from};
 ghost use Rattle.guards.specs.Lowerings.{lowering_numbers};
 ghost use Rattle.reserves.specs.Holding.{Facts, Known};
 ghost use Rattle.reserves.specs.Covers.{index_of, asked_reserve, is_held, first_holding, first_covering};
-ghost use Rattle.std.proofs.Math.Option.{none};
+ghost use Rattle.std.specs.Prelude.{None};
 
 use super::ahead::{doubled, list_ahead, work_out_unknown};
 use super::holding::holds_token;
@@ -54,7 +54,7 @@ fn first_holding(
     scratch: &mut [u16],
 ) -> Reserve
     requires { Known file.now facts.old scratch.old }
-    ensures found { index_of result ≡ first_holding file.now token.now numbers.now none }
+    ensures found { index_of result ≡ first_holding file.now token.now numbers.now None }
     ensures known { Known file.now facts.new scratch.new }
 {
     let mut i = 0;

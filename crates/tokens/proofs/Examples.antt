@@ -36,7 +36,7 @@ abbrev guard : List ℕ → List ℕ
 guard e = write Guard e
 
 admitted : List (List ℕ) → List (List ℕ)
-unfolding all filter same_bytes known fields fields_to nth composite size sizes placed placed_from flat_map is_wrapper peel peel_first
+unfolding same_bytes known fields fields_to nth composite size sizes placed placed_from flat_map is_wrapper peel peel_first
     ident split_and split_each split_first negated negated_each negated_first conditions_of required_conditions opposite operator single
     beside_in_asset token_named tokens_named admitted_inflow_token
 admitted cs = map (λ c. admitted_inflow_token (front (entry c))) cs
@@ -63,7 +63,7 @@ naming-none = refl
 -- where the token stands that an entry names: behind in-asset and its own head, on the left side, inside wrappers, in the first
 -- condition that names it
 places : List (List ℕ) → List ℕ
-unfolding all filter same_bytes known fields fields_to nth composite size sizes placed placed_from place_of flat_map is_wrapper peel peel_first
+unfolding same_bytes known fields fields_to nth composite size sizes placed placed_from place_of flat_map is_wrapper peel peel_first
     peel_place peel_first_place ident split_and split_each split_first negated negated_each negated_first conditions_of required_conditions
     opposite operator beside_in_asset token_named token_of joined joined_all condition_number tokens_number beside_place token_place
 places cs = map (λ c. token_place (entry c) (tokens_number (entry c) (record { place = 0; this = front (entry c) }))) cs
@@ -77,7 +77,7 @@ standing = refl
 
 -- the number of what an entry names, by its conditions: none, one, the same twice (the place of the first comparison, and 2), two
 numbered : List (List ℕ) → List ℕ
-unfolding all filter same_bytes known fields fields_to nth composite size sizes placed placed_from flat_map is_wrapper peel peel_first
+unfolding same_bytes known fields fields_to nth composite size sizes placed placed_from flat_map is_wrapper peel peel_first
     ident split_and split_each split_first negated negated_each negated_first conditions_of required_conditions opposite operator
     beside_in_asset token_named token_of joined joined_all condition_number tokens_number
 numbered cs = map (λ c. tokens_number (entry c) (record { place = 0; this = front (entry c) })) cs

@@ -180,7 +180,6 @@ module _ (file : List ℕ) (a b : ℕ) (x y : List ℕ) where
       go false e = refl
 
 pub means-joined : (file : List ℕ) (a b : ℕ) (ts us : List (List ℕ)) → Means file a ts → Means file b us → Means file (joined file a b) (ts ++ us)
-unfolding all
 means-joined file a b [] [] e f = sym (joined-empty file a b f) ∙ e
 means-joined file a b [] (y ∷ ys) e f =
     rw (← joined-first file a b (stating-some file b y (all (same_bytes y) ys) f) e) f
@@ -191,7 +190,7 @@ means-joined file a b (x ∷ xs) (y ∷ ys) e f =
 
 -- two tokens that differ stay so with others
 pub means-several : (file : List ℕ) (ts us : List (List ℕ)) → Means file 1 ts → Means file 1 (ts ++ us)
-unfolding known all
+unfolding known
 means-several file [] us e = absurd (omega (arith, e))
 means-several file (x ∷ xs) us e = rw (all_append (same_bytes x) xs us) (go (all (same_bytes x) xs) e)
   where

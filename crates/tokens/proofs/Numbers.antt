@@ -51,7 +51,7 @@ condition-token file n c s =
     rw (le-leb 2 (n + c.place + 2) (omega arith), z, ← drop-drop c.place n file, s)
 
 condition-means : (file : List ℕ) (n : ℕ) (c : Condition) → front (drop c.place (drop n file)) ≡ c.this → Means file (condition_number n c) (named_by c)
-unfolding condition_number filter all
+unfolding condition_number
 condition-means file n c s = go (known (token_named c)) refl
   where
     go : (k : Bool) → known (token_named c) ≡ k → Means file (cond k (n + c.place + 2) 0) (cond k (token_named c ∷ []) [])
@@ -63,7 +63,7 @@ conditions-mean file n [] e = tt
 conditions-mean file n (c ∷ cs) e = (condition-means file n c e.0, conditions-mean file n cs e.1)
 
 named-each : (cs : List Condition) → flat_map named_by cs ≡ filter known (map token_named cs)
-unfolding flat_map filter
+unfolding flat_map
 named-each [] = refl
 named-each (c ∷ cs) = go (known (token_named c)) (named-each cs)
   where

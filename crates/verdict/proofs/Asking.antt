@@ -2,7 +2,7 @@
 use Rattle.std.proofs.Common.{ℕ, ◌-◌, ◌≤◌, ◌<◌, ◌≡◌, refl, sym, ap, ◌∙◌, Bool, true, false, List, [], ◌∷◌, arith, lt-ltb, le-ltb, ltb-true, ltb-false, ltb, length, get_or, take, drop}
 use Rattle.std.proofs.Common.{length-take, length-drop, take_all, get_or-take, get_or-drop}
 use mathlib.Core.Bool.{false≢true}
-use mathlib.Core.Option.{some}
+use Rattle.std.proofs.Common.{Some}
 use Rattle.laws.proofs.Lists.{Every, every-filter, every-at}
 use Rattle.fields.specs.Field.{Fields, Placed, fields, nothing, whole, front, placed, placed_from}
 use Rattle.fields.proofs.Inside.{Stands, row-stands}
@@ -62,7 +62,7 @@ module _ (file : List ℕ) (n : ℕ) where
         let one : here ∷ [] ≡ take 1 (drop n (entries (fields file))) = rw w at e in
         record {
           same = rw (lt-ltb n (length (entries (fields file))) (shown-there (entries (fields file)) n no-entry here one))
-              (ap some (f ∙ ap (λ p. p.place) (sym (shown-nth (entries (fields file)) n no-entry here one))));
+              (ap Some (f ∙ ap (λ p. p.place) (sym (shown-nth (entries (fields file)) n no-entry here one))));
           inside = λ j g. let z : k ≡ j = cc in omega (arith, f, z);
         }
 

@@ -36,14 +36,11 @@ unfound-first s name x t e f = ap (any (same_bytes name)) (assets-all s x t e f)
 
 module _ (s name t : List ℕ) (i : Unfound s name t) where
   pub unfound-none : whole t ≡ false → false ≡ any (same_bytes name) (asset_params (front s))
-  unfolding any
   unfound-none w = rw (names-none t w) at i
 
   module _ (w : whole t ≡ true) (x : List ℕ) (h : x ≡ name_of (front t)) where
     pub unfound-found : same_bytes name x ≡ true → true ≡ any (same_bytes name) (asset_params (front s))
-    unfolding any
     unfound-found k = rw (w, ← h, k) at i
 
     pub unfound-on : same_bytes name x ≡ false → (y u : List ℕ) → y ≡ after t → assets_in (fields y) ≡ assets_from u → Unfound s name u
-    unfolding any
     unfound-on k y u e f = rw (names-next t y u w e f, ← h, k) at i

@@ -28,7 +28,6 @@ body-few p t = omega (arith, places-few t (p.place + 3) (p.place + size p.this) 
 
 -- there is one where some expression has the tag
 pub places-any : (t : ℕ) (ps : List Placed) → leb 1 (length (places_of t ps)) ≡ any (λ f. eqb (tag f) t) (without_places ps)
-unfolding any filter
 places-any t [] = refl
 places-any t (p ∷ ps) = go (eqb (tag p.this) t) (places-any t ps)
   where
@@ -61,7 +60,7 @@ module _ (s : List ℕ) where
 
 module _ (file : List ℕ) (n : ℕ) where
   pub body-places : (t : ℕ) → length file < 65536 → places_of t (body_exprs (placed_at file n)) ≡ map (λ p. p.place) (of_tag t (body_exprs (placed_at file n)))
-  unfolding body_exprs flat_map placed filter
+  unfolding body_exprs flat_map placed
   body-places t h = go (whole (drop n file)) refl
     where
       go : (w : Bool) → whole (drop n file) ≡ w → places_of t (body_exprs (placed_at file n)) ≡ map (λ p. p.place) (of_tag t (body_exprs (placed_at file n)))
@@ -143,7 +142,6 @@ body-anywhere p = statements-anywhere (p.place + 3) (0 + 3) (parts p.this)
 -- All of it: the file at the places of the table gives the expressions of the tag, in walk order
 
 tagged : (t : ℕ) (ps : List Placed) → without_places (of_tag t ps) ≡ filter (λ f. eqb (tag f) t) (without_places ps)
-unfolding filter
 tagged t [] = refl
 tagged t (p ∷ ps) = go (eqb (tag p.this) t) (tagged t ps)
   where

@@ -119,7 +119,7 @@ numbered s name p e = rw (e, bytes-symmetric name (name_of p.this)) (number-told
 
 among-placed : (s name : List ℕ) (ps : List Placed) → Every (Stands s) ps →
     among s name (flat_map parameter_numbers ps) ≡ any (same_bytes name) (map name_of (filter is_asset_parameter (without_places ps)))
-unfolding among any filter flat_map parameter_numbers
+unfolding among flat_map parameter_numbers
 among-placed s name [] e = refl
 among-placed s name (p ∷ ps) e = go (is_asset_parameter p.this) (among-placed s name ps e.1)
   where

@@ -83,12 +83,12 @@ unfolding fields fields_to nth composite size sizes placed flat_map walk walk_pa
 body-walked = refl
 
 body-guards : guards (front entry) ≡ front (write Gt (n ++ m)) ∷ []
-unfolding fields fields_to nth composite row fields_from filter guards entry parameter
+unfolding fields fields_to nth composite row fields_from guards entry parameter
 body-guards = refl
 
 -- the identifiers of the body, and a table with room for three of the five
 body-places : places_of Identifier (body_exprs (record { place = 100; this = front entry })) ≡ 133 ∷ 140 ∷ 144 ∷ 164 ∷ 168 ∷ []
-unfolding fields fields_to nth composite size sizes placed flat_map walk walk_parts stmt_exprs body_exprs filter is_expression is_statement entry parameter
+unfolding fields fields_to nth composite size sizes placed flat_map walk walk_parts stmt_exprs body_exprs is_expression is_statement entry parameter
 body-places = refl
 
 abbrev three : List ℕ
@@ -137,12 +137,12 @@ two-assets =
     ++ (write Parameter (name "Q_Asset" ++ type_name "Int") ++ write Parameter (name "b" ++ type_name "Q_Asset"))))
 
 assets : asset_params (front two-assets) ≡ bytes "a" ∷ bytes "b" ∷ []
-unfolding fields fields_to nth composite row fields_from filter same_bytes params is_asset_parameter asset_params two-assets
+unfolding fields fields_to nth composite row fields_from same_bytes params is_asset_parameter asset_params two-assets
 assets = refl
 
 -- the two numbers of each
 listed-assets : asset_numbers (front two-assets) ≡ short_number (bytes "a") ∷ 7 ∷ short_number (bytes "b") ∷ 43 ∷ []
-unfolding fields fields_to nth composite size sizes placed placed_from flat_map filter same_bytes is_asset_parameter parameter_numbers asset_numbers number_from two-assets
+unfolding fields fields_to nth composite size sizes placed placed_from flat_map same_bytes is_asset_parameter parameter_numbers asset_numbers number_from two-assets
 listed-assets = refl
 
 -- a body that debits and then sends, the send inside a let
@@ -152,6 +152,6 @@ paying =
     ++ write Let (name "x" ++ write Not (write Call (send ++ (m ++ (caller ++ n)))))))
 
 paid : map (λ f. tag (part 0 f)) (debits (front paying) ++ payouts (front paying)) ≡ Member ∷ Identifier ∷ []
-unfolding fields fields_to nth composite size sizes placed flat_map filter same_bytes ident method walk walk_parts stmt_exprs body_exprs exprs is_expression is_statement is_debit is_payout
+unfolding fields fields_to nth composite size sizes placed flat_map same_bytes ident method walk walk_parts stmt_exprs body_exprs exprs is_expression is_statement is_debit is_payout
     debits payouts paying
 paid = refl

@@ -11,7 +11,6 @@ use Rattle.walking.proofs.Within.{Within, within-filter, within-length}
 -- the places of one expression and of those after it, and of two lists
 pub places-cons : (t : ℕ) (p : Placed) (ps : List Placed) →
     places_of t (p ∷ ps) ≡ cond (eqb (tag p.this) t) (p.place % 65536 ∷ []) [] ++ places_of t ps
-unfolding filter
 places-cons t p ps = go (eqb (tag p.this) t)
   where
     go : (k : Bool) → map (λ q. q.place % 65536) (cond k (p ∷ of_tag t ps) (of_tag t ps)) ≡ cond k (p.place % 65536 ∷ []) [] ++ places_of t ps

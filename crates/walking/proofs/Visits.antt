@@ -35,7 +35,6 @@ walk_step n (field t x ps) = refl
 module _ (s : List ℕ) (k wanted : ℕ) (t : List ℕ) (n g : ℕ) (e : g ≡ tag (front s)) (v : Bool) where
   module _ (c : v ≡ is_expression g) where
     pub no-expression : not v ≡ true → Listed (places_of wanted (walk k (front s))) t n t n
-    unfolding filter
     no-expression h = rw (walk_step k (front s), ← e, ← c, not-true v h) (listed-none t n)
 
     pub expression-parts : not v ≡ false → (u : List ℕ) (m : ℕ) → Listed (cond (eqb g wanted) (k % 65536 ∷ []) []) t n u m →
@@ -48,12 +47,12 @@ module _ (s : List ℕ) (k wanted : ℕ) (t : List ℕ) (n g : ℕ) (e : g ≡ t
 
     pub expression-alone : not v ≡ false → (u : List ℕ) (m : ℕ) → Listed (cond (eqb g wanted) (k % 65536 ∷ []) []) t n u m →
         (x : List ℕ) → fields x ≡ parts (front s) → length x ≡ 0 → Listed (places_of wanted (walk k (front s))) t n u m
-    unfolding walk_parts filter
+    unfolding walk_parts
     expression-alone h u m p x f l = expression-parts h u m p x f u m (rw (no-elements x l, fields-end [] refl) (listed-none u m))
 
   module _ (c : v ≡ is_statement g) where
     pub no-statement : not v ≡ true → Listed (places_of wanted (stmt_exprs (record { place = k; this = front s }))) t n t n
-    unfolding filter stmt_exprs
+    unfolding stmt_exprs
     no-statement h = rw (← e, ← c, not-true v h) (listed-none t n)
 
     pub statement-parts : not v ≡ false → (x : List ℕ) → fields x ≡ parts (front s) → (z : List ℕ) (r : ℕ) →
@@ -64,7 +63,7 @@ module _ (s : List ℕ) (k wanted : ℕ) (t : List ℕ) (n g : ℕ) (e : g ≡ t
 -- Along a row of fields
 
 pub expressions : (wanted : ℕ) → Row (λ n fs. places_of wanted (walk n (nth 0 fs))) (λ n fs. places_of wanted (walk_parts n fs))
-unfolding walk_parts nth filter
+unfolding walk_parts nth
 expressions wanted =
     record {
       none = λ n r. refl;
@@ -74,7 +73,7 @@ expressions wanted =
 
 pub statements : (wanted : ℕ) →
     Row (λ n fs. places_of wanted (stmt_exprs (record { place = n; this = nth 0 fs }))) (λ n fs. places_of wanted (flat_map stmt_exprs (placed n fs)))
-unfolding flat_map placed nth filter
+unfolding flat_map placed nth
 statements wanted =
     record {
       none = λ n r. refl;

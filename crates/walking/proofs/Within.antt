@@ -29,7 +29,6 @@ within-length a b (p ∷ ps) w = omega (arith, w.0, within-length (p.place + 3) 
 
 -- leaving some out
 pub within-filter : (a b : ℕ) (f : Placed → Bool) (ps : List Placed) → Within a b ps → Within a b (filter f ps)
-unfolding filter
 within-filter a b f [] w = w
 within-filter a b f (p ∷ ps) w =
     let v = within-filter (p.place + 3) b f ps w.1 in

@@ -11,15 +11,12 @@ Left s i k = all is_underscore (drop k s) ≡ all is_underscore (drop i s)
 module _ (s : List ℕ) (i k : ℕ) (v : Left s i k) where
   module _ (h : k < length s) where
     pub other : (get_or s k 0 ≡ 0x5F → ⊥) → false ≡ all is_underscore (drop i s)
-    unfolding all
     other n = rw (drop-step s k h, ne_eqb _ _ n) at v
 
     pub one_more : get_or s k 0 ≡ 0x5F → Left s i (k + 1)
-    unfolding all
     one_more e = rw (drop-step s k h, eq-eqb _ _ e) at v
 
   pub no_more : length s ≤ k → true ≡ all is_underscore (drop i s)
-  unfolding all
   no_more h = rw (drop_of_length-le s h) at v
 
 abbrev pub invariant-loop-k : goal.invariant-loop-k

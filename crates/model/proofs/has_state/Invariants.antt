@@ -20,16 +20,13 @@ module _ (s name : List ℕ) where
   module _ (t : List ℕ) (i : any_ahead name t ≡ any (same_bytes name) (state_names (fields s))) where
     module _ (v : Bool) (o : v ≡ whole t) (w : v ≡ true) (n : List ℕ) (f : n ≡ name_of (front t)) (b : Bool) (g : b ≡ same_bytes name n) where
       pub here : b ≡ true → true ≡ any (same_bytes name) (state_names (fields s))
-      unfolding any
       here h = rw (sym o ∙ w, ← f, ← g, h) at i
 
       pub behind : b ≡ false → (x u : List ℕ) → x ≡ after t → u ≡ from State State x → any_ahead name u ≡ any (same_bytes name) (state_names (fields s))
-      unfolding any
       behind h x u e k =
           rw (k, ← from_row State State x, e) (rw (sym o ∙ w, ← f, ← g, h) at i)
 
     pub none : whole t ≡ false → false ≡ any (same_bytes name) (state_names (fields s))
-    unfolding any
     none w = rw w at i
 
 abbrev pub invariant-loop-t : goal.invariant-loop-t

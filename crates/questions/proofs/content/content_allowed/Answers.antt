@@ -23,7 +23,7 @@ module _ (t : ℕ) (x : List ℕ) where
 
   module _ (e : is_text t ≡ true) where
     empty-text : length x ≡ 0 → leb 0x30 t && leb t 0x32 ≡ content_allowed t x
-    unfolding content_allowed all known
+    unfolding content_allowed known
     empty-text h = rw (e, no-elements x h)
 
     some-text : (length x ≡ 0 → ⊥) → (r : Bool) → r ≡ all (between 0x20 0x7E) x → r ≡ content_allowed t x

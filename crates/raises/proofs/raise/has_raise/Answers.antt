@@ -8,7 +8,6 @@ use Rattle.raises.specs.Raising.{is_raise, raising, raises_from}
 use Rattle.raises.proofs.raise.has_raise.Goals as goal
 
 some-pass : (p : Field → Bool) (l : List Field) (w : Bool) (f : Field) (fs : List Field) → filter p l ≡ cond w (f ∷ fs) [] → w ≡ any p l
-unfolding any filter
 some-pass p [] true f fs e = cc
 some-pass p [] false f fs e = refl
 some-pass p (x ∷ l) w f fs e = go (p x) (some-pass p l w f fs) e

@@ -1,6 +1,6 @@
 -- The fields of the guards that were passed do not cover, so those that are left decide.
 use Rattle.std.proofs.Common.{ℕ, ◌≤◌, ◌<◌, ◌≡◌, false, List, length}
-use mathlib.Core.Option.{none}
+use Rattle.std.proofs.Common.{None}
 use Rattle.laws.specs.Lists.{find}
 use Rattle.fields.specs.Field.{Field, whole, front}
 use Rattle.guards.specs.Bounding.{bounding_from}
@@ -15,8 +15,8 @@ pub record Trying (file token l : List ℕ) (amount : Field) (guards facts scrat
   pub left : first_covering file token l (bounding_from amount t) ≡ first_covering file token l (bounding_from amount guards)
 
 pub none-left : {file token l : List ℕ} {amount : Field} {guards facts scratch t : List ℕ} {most : ℕ} → Trying file token l amount guards facts scratch t most →
-    whole t ≡ false → none ≡ first_covering file token l (bounding_from amount guards)
-unfolding first_covering find index_in
+    whole t ≡ false → None ≡ first_covering file token l (bounding_from amount guards)
+unfolding first_covering index_in
 none-left v w = rw w at v.left
 
 abbrev pub invariant-loop-t : goal.invariant-loop-t

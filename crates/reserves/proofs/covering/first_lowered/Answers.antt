@@ -1,6 +1,6 @@
 -- The table has room for all lowerings of a file that passes question 1.
 use Rattle.std.proofs.Common.{ℕ, ◌*◌, ◌≤◌, ◌≡◌, List, arith, length, take}
-use mathlib.Core.Option.{Option}
+use Rattle.std.proofs.Common.{Option}
 use Rattle.fields.specs.Table.{Listed}
 use Rattle.fields.specs.Field.{Field}
 use Rattle.walking.specs.Table.{placed_at}

@@ -1,7 +1,7 @@
 -- A payout without a known token, whose amount no guard bounds or which does not contain what comes in, has no reserve; else the first
 -- guard whose field covers decides.
 use Rattle.std.proofs.Common.{ℕ, ◌≤◌, ◌≡◌, refl, sym, ◌∙◌, Bool, true, false, not, List, [], ◌∷◌, length, drop}
-use mathlib.Core.Option.{Option, none}
+use Rattle.std.proofs.Common.{Option, None}
 use borrow.Author.Tests.{not-true, not-false}
 use Rattle.laws.specs.Texts.{known}
 use Rattle.fields.specs.Field.{fields, whole, front, parts}
@@ -15,7 +15,7 @@ use Rattle.reserves.proofs.Covered.{unknown-token, no-guard, none-contained, all
 use Rattle.reserves.proofs.covering.reserve_bounding_payout.Goals as goal
 
 module _ (file : List ℕ) (place : ℕ) (asked : List ℕ) (k : ℕ) where
-  no-token : (t : List ℕ) → t ≡ asked_token file asked k → length t ≡ 0 → none ≡ asked_reserve file place asked k
+  no-token : (t : List ℕ) → t ≡ asked_token file asked k → length t ≡ 0 → None ≡ asked_reserve file place asked k
   unfolding known
   no-token [] e z = unknown-token file place asked k (rw (← e) refl)
   no-token (x ∷ t) e z = cc
@@ -25,14 +25,14 @@ module _ (file : List ℕ) (place : ℕ) (asked : List ℕ) (k : ℕ) where
     all-bounding : bounding_from (front a) gs ≡ bounding (asked_amount file asked k) (parts (front (drop place file)))
     all-bounding = rw (← e, ← f, ← g) (sym h)
 
-    none-bounds : (w : Bool) → w ≡ whole gs → not w ≡ true → none ≡ asked_reserve file place asked k
+    none-bounds : (w : Bool) → w ≡ whole gs → not w ≡ true → None ≡ asked_reserve file place asked k
     none-bounds w i o = no-guard file place asked k (sym all-bounding ∙ rw (← i, not-true w o))
 
     module _ (b : Bool) (i : b ≡ contains_inflow (front x) (front a)) where
       inflow : b ≡ contains_inflow (front (drop place file)) (asked_amount file asked k)
       inflow = rw (← e, ← g) i
 
-      not-contained : not b ≡ true → none ≡ asked_reserve file place asked k
+      not-contained : not b ≡ true → None ≡ asked_reserve file place asked k
       not-contained o = none-contained file place asked k (sym inflow ∙ not-true b o)
 
       by_guards : not b ≡ false → length file ≤ 32768 → (t : List ℕ) → t ≡ asked_token file asked k → (r : Option ℕ) →

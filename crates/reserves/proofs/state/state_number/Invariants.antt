@@ -14,11 +14,11 @@ unfoldable pub numbered : List ℕ → ℕ → List (List ℕ) → ℕ
 numbered name n l = cond (any (same_bytes name) l) (n + position (same_bytes name) l) 0
 
 pub numbered-here : (name : List ℕ) (n : ℕ) (x : List ℕ) (l : List (List ℕ)) → same_bytes name x ≡ true → numbered name n (x ∷ l) ≡ n
-unfolding numbered any position
+unfolding numbered position
 numbered-here name n x l e = rw e (omega arith)
 
 pub numbered_next : (name : List ℕ) (n : ℕ) (x : List ℕ) (l : List (List ℕ)) → same_bytes name x ≡ false → numbered name n (x ∷ l) ≡ numbered name (n + 1) l
-unfolding numbered any position
+unfolding numbered position
 numbered_next name n x l e =
     let f : n + suc (position (same_bytes name) l) ≡ n + 1 + position (same_bytes name) l = omega arith in
     rw (e, f)
@@ -37,7 +37,7 @@ module _ (file name : List ℕ) where
 
   module _ (t : List ℕ) (n : ℕ) (i : Passed file name t n) where
     pub none_left : whole t ≡ false → 0 ≡ state_number (fields file) name
-    unfolding numbered any
+    unfolding numbered
     none_left w = rw w at i.left
 
     -- a state field takes more bytes than one

@@ -9,7 +9,7 @@ use Rattle.tokens.proofs.inflow.is_credit.Goals as goal
 
 one_of_three : (f : Field) (m : List ℕ) → m ≡ method f → (a b c : Bool) → a ≡ same_bytes m (bytes "credit") → b ≡ same_bytes m (bytes "set") →
     c ≡ same_bytes m (bytes "insert") → a || b || c ≡ is_credit f
-unfolding is_credit any
+unfolding is_credit
 one_of_three f m e a b c p q r = rw (← e, ← p, ← q, ← r) (grouped a b c)
   where
     grouped : (a b c : Bool) → a || b || c ≡ a || (b || (c || false))

@@ -14,7 +14,7 @@ use Rattle.walking.proofs.walk.list_body.Goals as goal
 
 module _ (file : List ℕ) (place wanted : ℕ) (t s : List ℕ) (e : s ≡ drop place file) where
   no-entry : whole s ≡ false → Listed (places_of wanted (body_exprs (placed_at file place))) t 0 t 0
-  unfolding body_exprs flat_map placed filter
+  unfolding body_exprs flat_map placed
   no-entry w = rw (← e, front-none s w) (listed-none t 0)
 
   module _ (w : whole s ≡ true) (small : length file < 2 ^ 64) where
