@@ -12,3 +12,4 @@ pub mod AtPlaces
 pub mod Choosing
 pub mod Writing
 pub mod Examples
+pub mod InARow

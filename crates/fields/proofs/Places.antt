@@ -1,5 +1,5 @@
 -- Sizes and places: the tree of s tells where each of its fields stands in s.
-use Rattle.std.proofs.Common.{ℕ, zero, suc, ◌+◌, ◌-◌, ◌≤◌, ◌<◌, ◌≡◌, refl, ◌∙◌, Bool, true, false, cond, List, [], ◌∷◌, arith, leb-true, length, drop, length-drop, length-take, drop-drop}
+use Rattle.std.proofs.Common.{ℕ, zero, suc, ◌+◌, ◌-◌, ◌≤◌, ◌<◌, ◌≡◌, refl, ◌∙◌, Bool, true, false, cond, List, [], ◌∷◌, arith, leb-true, length, drop, eqb, eqb-true, sym, length-drop, length-take, drop-drop}
 use lib.Seq.{drop-nil, drop-length}
 use Rattle.laws.specs.Lists.{filter}
 use Rattle.laws.proofs.Lists.{no-elements}
@@ -96,6 +96,9 @@ module _ (s t : List ℕ) (n i : ℕ) (v : Passed s n t i) where
 
   pub passed-end : length t ≡ 0 → t ≡ drop (place_of n (fields s)) s
   passed-end h = let e = no-elements t h in e ∙ (rw (e, drop-nil) at v.left)
+
+pub is-zero : (n : ℕ) (b : Bool) → b ≡ eqb n 0 → b ≡ true → n ≡ 0
+is-zero n b e h = eqb-true n 0 (sym e ∙ h)
 
 pub reads-nth : (s t : List ℕ) (n : ℕ) → t ≡ drop (place_of n (fields s)) s → front t ≡ nth n (fields s)
 reads-nth s t n e = rw e (nth-place n s)

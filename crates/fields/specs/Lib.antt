@@ -1,3 +1,4 @@
 pub mod Field
 pub mod Number
 pub mod Table
+pub mod Row

@@ -9,7 +9,7 @@ use tags::is_composite;
 fn two_bytes(high: u8, low: u8) -> usize
     ensures { (result ≡ high * 256 + low) × (result < 65536) }
 {
-    (high as usize) * 256 + (low as usize)
+    usize::from(u16::from_be_bytes([high, low]))
 }
 
 // The tag at the front of s; 0 where s is empty.
@@ -88,14 +88,11 @@ pub fn nth_field(s: &[u8], n: usize) -> &[u8]
     ensures shows { result.now ≡ drop (place_of n (fields s.now)) s.now }
 {
     let mut t = s;
-    let mut i = 0;
-    while i < n {
-        if t.len() == 0 {
-            return t;
+    for _ in 0..n {
+        if t.is_empty() {
+            break;
         }
-        let behind = after_front(t);
-        t = behind;
-        i += 1;
+        t = after_front(t);
     }
     t
 }

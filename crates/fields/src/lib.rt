@@ -3,5 +3,7 @@
 
 pub mod bytes;
 pub mod front;
+pub mod field;
 pub mod number;
+pub mod row;
 pub mod table;

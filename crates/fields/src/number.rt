@@ -11,10 +11,8 @@ pub fn text_number(s: &[u8], base: usize) -> usize
     ensures small { result < 4294967296 }
 {
     let mut number = 0;
-    let mut i = 0;
-    while i < s.len() {
-        number = (number + s[i] as usize) * base % 4294967296;
-        i += 1;
+    for &byte in s {
+        number = (number + usize::from(byte)) * base % 4294967296;
     }
     number
 }

@@ -1,6 +1,7 @@
 -- Texts compare as the same exactly where they are one list: each byte is compared, and so are the ends.
 use Rattle.std.proofs.Common.{ℕ, suc, ◌≡◌, refl, sym, ap, true, false, List, [], ◌∷◌, arith, eqb-true, eq-eqb, eqb, length}
 use mathlib.Core.Bool.{and-false}
+use Rattle.std.specs.Cmp.Lexicographic.{pointwise}
 use Rattle.laws.specs.Texts.{same_bytes, known}
 use Rattle.laws.proofs.Truths.{and_left, and_right}
 use Rattle.laws.proofs.Numbers.{number-symmetric}
@@ -57,3 +58,11 @@ unfolding known same_bytes
 same-unknown [] y p q = cc
 same-unknown (a ∷ x) [] p q = refl
 same-unknown (a ∷ x) (b ∷ y) p q = cc
+
+-- the library's comparison of lists, element by element
+pub same-pointwise : (a b : List ℕ) → pointwise eqb a b ≡ same_bytes a b
+unfolding same_bytes
+same-pointwise [] [] = refl
+same-pointwise [] (y ∷ b) = refl
+same-pointwise (x ∷ a) [] = refl
+same-pointwise (x ∷ a) (y ∷ b) = rw (same-pointwise a b)

@@ -2,11 +2,11 @@
 use Rattle.fields.proofs.number.text_number.Invariants.{none, more, all, all-small}
 use Rattle.fields.proofs.number.text_number.Goals as goal
 
-pub loop-i-init : goal.loop-i-init
-loop-i-init c = search none
+pub loop-byte-init : goal.loop-byte-init
+loop-byte-init c = search none
 
-pub loop-i-preserved : goal.loop-i-preserved
-loop-i-preserved c = search more
+pub loop-byte-preserved : goal.loop-byte-preserved
+loop-byte-preserved c = search more
 
 pub returns-clause-same : goal.returns-clause-same
 returns-clause-same c = search all

@@ -13,13 +13,13 @@ pub none : (s : List ℕ) (base : ℕ) → Numbering s base 0 0
 none s base = record { within = omega arith; small = omega arith; left = refl }
 
 module _ (s : List ℕ) (base number i : ℕ) (v : Numbering s base number i) where
-  pub more : i < length s → Numbering s base ((number + get_or s i 0) * base % 4294967296) (i + 1)
+  pub more : i < length s → (byte : ℕ) → byte ≡ get_or s i 0 → Numbering s base ((number + byte) * base % 4294967296) (i + 1)
   unfolding number_from
-  more h =
+  more h byte e =
       record {
         within = omega arith;
-        small = mod-lt ((number + get_or s i 0) * base) (omega arith);
-        left = rw (drop-step s i h) at v.left;
+        small = mod-lt ((number + byte) * base) (omega arith);
+        left = rw e (rw (drop-step s i h) at v.left);
       }
 
   pub all : length s ≤ i → number ≡ text_number base s
@@ -29,8 +29,5 @@ module _ (s : List ℕ) (base number i : ℕ) (v : Numbering s base number i) wh
   pub all-small : number < 4294967296
   all-small = v.small
 
-abbrev pub invariant-loop-i : goal.invariant-loop-i
-invariant-loop-i l = Numbering l.s l.base l.number l.i
-
-abbrev pub decreases-loop-i : goal.decreases-loop-i
-decreases-loop-i l = length l.s - l.i
+abbrev pub invariant-loop-byte : goal.invariant-loop-byte
+invariant-loop-byte l = Numbering l.s l.base l.number l.byte-index

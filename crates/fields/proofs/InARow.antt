@@ -1,0 +1,44 @@
+-- Going along a row: a step gives the field in front, and what is left behind it is the rest of the row.
+use Rattle.std.proofs.Common.{ℕ, ◌+◌, ◌≡◌, refl, sym, ap, ◌∙◌, Bool, true, false, List, [], ◌∷◌, Option, Some, None, length}
+use Rattle.std.proofs.lemmas.Iterator.{YieldsList}
+use Rattle.std.proofs.lemmas.Iterator.Consumers.{YieldsList-from_shown}
+use Rattle.fields.specs.Field.{Field, Placed, fields, placed, row, nth, whole, after, front, length_of, size}
+use Rattle.fields.specs.Row.{shown, left, Step, Steps}
+use Rattle.fields.specs.declared.field.Fields.{Fields}
+use Rattle.fields.specs.declared.field.Field.{Field as Found}
+use Rattle.fields.proofs.Reading.{fields-next, fields-end}
+use Rattle.fields.proofs.Places.{front-size}
+
+-- the fields of a part, as a step finds them
+module _ (s : List ℕ) where
+  pub placed-end : whole s ≡ false → (k : ℕ) → placed k (fields s) ≡ []
+  unfolding placed
+  placed-end w k = rw (fields-end s w)
+
+  pub placed-next : whole s ≡ true → (k : ℕ) → placed k (fields s) ≡ record { place = k; this = front s } ∷ placed (k + (3 + length_of s)) (fields (after s))
+  unfolding placed
+  placed-next w k = ap (placed k) (fields-next s w) ∙ rw (front-size s w)
+
+  row-end : whole s ≡ false → row (fields s) ≡ []
+  unfolding row
+  row-end w = rw (fields-end s w)
+
+  row-next : whole s ≡ true → row (fields s) ≡ front s ∷ row (fields (after s))
+  unfolding row
+  row-next w = ap row (fields-next s w)
+
+-- what a row yields: each field with its place
+module _ (s : Fields) (p : Found) (t : Fields) (h : Step s p t) where
+  pub left-next : left s ≡ shown p ∷ left t
+  left-next = placed-next s.rest.now h.there s.place ∙ rw (h.place, h.part, h.behind, h.rest)
+
+  front-next : row (fields s.rest.now) ≡ front p.part.now ∷ row (fields t.rest.now)
+  front-next = row-next s.rest.now h.there ∙ rw (h.part, h.rest)
+
+pub along-placed : (s : Fields) → YieldsList Steps shown s (left s)
+along-placed = YieldsList-from_shown Steps shown left (λ s t w. ap length (placed-end s.rest.now w s.place)) left-next
+
+-- and without the places
+pub along-row : (s : Fields) → YieldsList Steps (λ p. front p.part.now) s (row (fields s.rest.now))
+along-row =
+    YieldsList-from_shown Steps (λ p. front p.part.now) (λ s. row (fields s.rest.now)) (λ s t w. ap length (row-end s.rest.now w)) front-next
