@@ -1,6 +1,7 @@
 -- The backings of an entry by their numbers in its table: backing number i is debit i, and behind the debits an asset parameter.
-use Rattle.std.specs.Prelude.{ℕ, ◌≡◌, Bool, false, cond, not, ◌&&◌, List, ltb, get_or, drop}
-use Rattle.laws.specs.Numbers.{first_from}
+use Rattle.std.specs.Prelude.{ℕ, ◌≡◌, Bool, false, cond, not, ◌&&◌, List, ltb, get_or, drop, Option, IfSome}
+use Rattle.std.specs.List.{range_with_len}
+use Rattle.laws.specs.Lists.{any, find}
 use Rattle.fields.specs.Field.{Field, fields, front, part}
 use Rattle.model.specs.Model.{name_of}
 use Rattle.walking.specs.Walking.{peel, receiver}
@@ -9,7 +10,7 @@ use Rattle.equality.specs.Equality.{expr_eq}
 use Rattle.equality.specs.Amount.{amount_of}
 use Rattle.bounds.specs.Bounds.{bounded_by_backing}
 use Rattle.tokens.specs.Tokens.{admitted_inflow_token}
-use Rattle.tokens.specs.Numbers.{not_yet, tokens_number}
+use Rattle.tokens.specs.Numbers.{tokens_number}
 use Rattle.fundings.specs.FundingTokens.{funding_token}
 use Rattle.backings.specs.Marked.{mark_at}
 use Rattle.entries.specs.Entered.{entry_of}
@@ -18,8 +19,8 @@ use Rattle.backings.specs.declared.backing.Backing.{Backing}
 use Rattle.backings.specs.declared.marks.Marks.{Marks as Coded}
 
 -- what is remembered of the token that the entry at a place admits: nothing yet, or the token's number
-pub record Admitted (file : List ℕ) (place number : ℕ) : Type 0 where
-  pub told : (number ≡ not_yet → ⊥) → number ≡ tokens_number file (placed_at file place)
+abbrev pub Admitted : (file : List ℕ) (place : ℕ) → Option ℕ → Type 0
+Admitted file place remembered = IfSome remembered (λ number. number ≡ tokens_number file (placed_at file place))
 
 -- the call of debit number i
 abbrev pub debit_at : (file table : List ℕ) → ℕ → Field
@@ -52,9 +53,10 @@ free_in file table count free test i = mark_at free i && test (amount_in file (b
 unfoldable pub taken_in : (file table : List ℕ) → ℕ → List Bool → (Field → Bool) → ℕ → Bool
 taken_in file table count free test i = not (mark_at free i) && test (amount_in file (backing_in table count i))
 
--- the number of the first such backing of an entry; that of all its backings where there is none
-abbrev pub first_free : List ℕ → Entry → Coded → (Field → Bool) → ℕ
-first_free file e marks test = first_from (free_in file e.backed e.debits marks.free test) 0 e.total
+-- the number of the first such free backing of an entry, if there is one
+abbrev pub first_free : List ℕ → Entry → Coded → (Field → Bool) → Option ℕ
+first_free file e marks test = find (free_in file e.backed e.debits marks.free test) (range_with_len 0 e.total)
 
-abbrev pub first_taken : List ℕ → Entry → Coded → (Field → Bool) → ℕ
-first_taken file e marks test = first_from (taken_in file e.backed e.debits marks.free test) 0 e.total
+-- whether there is such a taken one
+abbrev pub any_taken : List ℕ → Entry → Coded → (Field → Bool) → Bool
+any_taken file e marks test = any (taken_in file e.backed e.debits marks.free test) (range_with_len 0 e.total)

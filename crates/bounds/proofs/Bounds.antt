@@ -8,11 +8,10 @@ use Rattle.fields.specs.Field.Field.{field}
 use Rattle.fields.specs.Field.Fields.{end, next}
 use Rattle.fields.proofs.Parts.{tag-none}
 use Rattle.walking.specs.Walking.{peel}
-use Rattle.fields.proofs.Listing.{parts-shorter}
+use Rattle.fields.proofs.Places.{parts-shorter}
 use Rattle.equality.specs.Equality.{expr_eq}
 use Rattle.equality.proofs.Equality.{nothing_right}
 use Rattle.bounds.specs.Bounds.{goes_left, wrapping_inside, bounded_by_backing, left_bounded}
-use Rattle.bounds.specs.Backing.{backing_field}
 
 -- a missing amount is bounded by no backing
 pub nothing-bounded : (backing : Field) (wrapping : Bool) → bounded_by_backing nothing backing wrapping ≡ false
@@ -35,25 +34,24 @@ unfolding bounded_by_backing
 bounded-step (field t x ps) backing wrapping = rw (← left-bounded ps backing (wrapping_inside t wrapping))
 
 -- the part that the rule has come to, with wrapping on or off there, decides what was asked
-abbrev pub Bounding : (amount backing : List ℕ) → Bool → Bool → List ℕ → Bool → Type 0
-Bounding amount backing named wrapping t here =
-    bounded_by_backing (front t) (backing_field named backing) here ≡ bounded_by_backing (front amount) (backing_field named backing) wrapping
+abbrev pub Bounding : (amount : List ℕ) → Field → Bool → List ℕ → Bool → Type 0
+Bounding amount backing wrapping t here = bounded_by_backing (front t) backing here ≡ bounded_by_backing (front amount) backing wrapping
 
-module _ (amount backing : List ℕ) (named wrapping : Bool) (t : List ℕ) (here : Bool) (i : Bounding amount backing named wrapping t here)
-    (x : List ℕ) (p : front x ≡ peel (front t)) (q : Bool) (e : q ≡ expr_eq (backing_field named backing) (front x)) where
-  step : q || goes_left (tag (front t)) here && bounded_by_backing (part 0 (front t)) (backing_field named backing) (wrapping_inside (tag (front t)) here)
-      ≡ bounded_by_backing (front amount) (backing_field named backing) wrapping
-  step = rw (e, p, ← bounded-step (front t) (backing_field named backing) here) i
+module _ (amount : List ℕ) (backing : Field) (wrapping : Bool) (t : List ℕ) (here : Bool) (i : Bounding amount backing wrapping t here)
+    (x : List ℕ) (p : front x ≡ peel (front t)) (q : Bool) (e : q ≡ expr_eq backing (front x)) where
+  step : q || goes_left (tag (front t)) here && bounded_by_backing (part 0 (front t)) backing (wrapping_inside (tag (front t)) here)
+      ≡ bounded_by_backing (front amount) backing wrapping
+  step = rw (e, p, ← bounded-step (front t) backing here) i
 
-  pub bounding-equal : q ≡ true → true ≡ bounded_by_backing (front amount) (backing_field named backing) wrapping
+  pub bounding-equal : q ≡ true → true ≡ bounded_by_backing (front amount) backing wrapping
   bounding-equal h = rw h at step
 
   module _ (h : q ≡ false) (g : ℕ) (f : g ≡ tag (front t)) (v : Bool) (o : v ≡ goes_left g here) where
-    pub bounding-stop : not v ≡ true → false ≡ bounded_by_backing (front amount) (backing_field named backing) wrapping
+    pub bounding-stop : not v ≡ true → false ≡ bounded_by_backing (front amount) backing wrapping
     bounding-stop n = rw (h, ← f, ← o, not-true v n) at step
 
     pub bounding-left : not v ≡ false → (w : Bool) → w ≡ wrapping_inside g here → (u : List ℕ) → front u ≡ part 0 (front t) →
-        Bounding amount backing named wrapping u w
+        Bounding amount backing wrapping u w
     bounding-left n w k u d = rw (d, k) (rw (h, ← f, ← o, not-false v n) at step)
 
 -- the rule goes only into a field that is there, since a missing one has the tag 0; what it goes on with is shorter

@@ -1,6 +1,6 @@
 -- The definition computed on examples: what a backing bounds, and what a hurried reading would take for bounded.
 use Rattle.std.proofs.Common.{ℕ, ◌≡◌, refl, Bool, true, false, List, [], ◌∷◌, ◌++◌}
-use Rattle.laws.specs.Lists.{any, all, filter}
+use Rattle.laws.specs.Lists.{any, all}
 use Rattle.laws.specs.Texts.{same_bytes}
 use Rattle.tags.specs.Tag.{composite, is_wrapper}
 use Rattle.tags.specs.Tag as tag

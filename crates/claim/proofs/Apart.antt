@@ -1,6 +1,6 @@
 -- No two covers name the same: everything is free once at the start, and what a cover names is free once less after it.
 use Rattle.std.proofs.Common.{ℕ, ◌+◌, ◌≤◌, ◌<◌, arith, ◌≡◌, refl, ap, Bool, true, false, ◌&&◌, ◌||◌, not, List, [], ◌∷◌, eq-eqb, eqb-true, eqb, length, get_or}
-use Rattle.laws.specs.Lists.{any, filter, position, numbered}
+use Rattle.laws.specs.Lists.{any, position, numbered}
 use Rattle.laws.specs.Texts.{same_bytes}
 use Rattle.laws.proofs.Counting.{bit, count, count-cons, count-append, count_none, count_index, count-taken, only_one}
 use Rattle.laws.proofs.Truths.{and_right}

@@ -2,7 +2,6 @@
 -- (Apart), and is the j-th of its amount where all have equal backings (Exact); and the bytes say kind and index (Sheets).
 use Rattle.std.proofs.Common.{ℕ, ◌*◌, ◌<◌, arith, ◌≡◌, refl, ap, ◌∙◌, true, List, length, get_or, drop}
 use borrow.Author.Tests.{not-true}
-use Rattle.laws.specs.Lists.{any}
 use Rattle.fields.specs.Field.{Field, Fields, fields}
 use Rattle.walking.specs.Walking.{payouts}
 use Rattle.tokens.specs.Tokens.{differ}

@@ -1,5 +1,5 @@
 -- The index of a cover that backs a payout fits in two bytes: an entry has few backings, and a file few state fields.
-use Rattle.std.proofs.Common.{ℕ, zero, suc, ◌+◌, ◌≤◌, ◌<◌, suc-le-suc, le_trans, arith, ◌≡◌, refl, sym, ap, ◌∙◌, Bool, true, false, ◌&&◌, ◌||◌, List, leb-true, eqb, leb, length}
+use Rattle.std.proofs.Common.{ℕ, zero, suc, ◌+◌, ◌≤◌, ◌<◌, suc-le-suc, le_trans, arith, ◌≡◌, refl, sym, ap, ◌∙◌, Bool, true, false, ◌&&◌, ◌||◌, List, leb-true, eqb, leb, length, Ok}
 use lib.ListN.{length-map}
 use Rattle.laws.specs.Lists.{filter}
 use Rattle.laws.proofs.Lists.{filter-few}
@@ -9,9 +9,7 @@ use Rattle.tags.specs.Tag.{State, between}
 use Rattle.fields.specs.Field.{Field, Fields, fields, tag, fields_to, row, fields_from, whole, after}
 use Rattle.model.specs.Model.{state_names}
 use Rattle.questions.specs.Questions.{Asked, passes, fails, ask, ◌and_then◌, ask_form, ask_file, at_most}
-use Rattle.questions.specs.Answers.{asked as asked_by}
-use Rattle.questions.specs.declared.check.Answer.{Answer}
-use Rattle.questions.specs.declared.check.Answer.TheVariants.{Passes}
+use Rattle.questions.specs.Answers.{Answered, asked as asked_by}
 use Rattle.walking.specs.Walking.{debits, asset_params, is_payout, body_exprs}
 use Rattle.matching.specs.Matching.{debit_backings, parameter_backings}
 use Rattle.claim.specs.Verdict.{backing_count, entry_at, ask_exists, ask_entry}
@@ -95,7 +93,7 @@ module _ (file : List ℕ) (f : ask_file file ≡ passes) where
         omega (arith, backs-below (fields file) (entry_at (fields file) n).this p k i h, few-backings, few-states file, short-file)
 
 -- by the answer that the code gives
-module _ (file : List ℕ) (a : Answer) (e : asked_by a ≡ ask_file file) (h : a ≡ Passes) where
+module _ (file : List ℕ) (a : Answered) (e : asked_by a ≡ ask_file file) (h : a ≡ Ok tt) where
   pub answered-passes : ask_file file ≡ passes
   answered-passes = sym e ∙ ap asked_by h
 

@@ -3,7 +3,7 @@ use Rattle.std.proofs.Common.{ℕ, ◌≡◌, refl, List, [], ◌∷◌, ◌++�
 use mathlib.Core.List.{flat_map}
 use Rattle.std.proofs.Common.{Option}
 use Prim.Native.String.{String}
-use Rattle.laws.specs.Lists.{any, all, filter, find, remove_first, position, numbered}
+use Rattle.laws.specs.Lists.{remove_first, position, numbered}
 use Rattle.laws.specs.Texts.{same_bytes, known}
 use Rattle.tags.specs.Tag.{State, Entry, Parameter, Guard, AddTo, SubtractFrom, ExpressionStatement, Caller, InAsset, Member, Call, Checked, Eq, Ge, Sub, Mul, Div}
 use Rattle.tags.specs.Tag.{is_item, is_clause, is_statement, is_assign, is_expression, is_text, is_wrapper, composite}

@@ -1,7 +1,6 @@
 -- The definitions computed on examples: what And and a denial give, what they leave whole, and the order of an entry's conditions.
 use Rattle.std.proofs.Common.{ℕ, ◌≡◌, refl, true, false, List, [], ◌∷◌, ◌++◌, map}
 use mathlib.Core.List.{flat_map}
-use Rattle.laws.specs.Lists.{filter}
 use Rattle.tags.specs.Tag.{Entry, Limits, Denies, Guard, Let, Identifier, Not, Negate, Call, Checked, Wrapping, Or, And, Eq, Ne, Lt, Gt, Le, Ge, Add, composite}
 use Rattle.fields.specs.Field.{fields, fields_to, front, nth, nothing, size, sizes, placed, placed_from}
 use Rattle.fields.proofs.Writing.{write, name, identifier}

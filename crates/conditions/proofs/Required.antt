@@ -2,7 +2,6 @@
 -- clause's and a guard's, so none is counted twice.
 use Rattle.std.proofs.Common.{ℕ, ◌+◌, ◌*◌, ◌≤◌, ◌≡◌, refl, Bool, true, false, cond, List, [], ◌∷◌, map, arith, leb-true, leb, length, length-append}
 use mathlib.Core.List.{flat_map}
-use Rattle.laws.specs.Lists.{filter}
 use Rattle.laws.proofs.Lists.{Every}
 use Rattle.laws.proofs.Truths.{and_left, and_right}
 use Rattle.tags.specs.Tag.{Limits, Denies, Guard, between}

@@ -2,93 +2,104 @@
 // The conditions of a clause or a guard, taken apart, in a table that the caller lends. An expression visits its list of
 // parts, and the list, gone through by a loop, visits expressions: the stack grows with the nesting of a file and not with
 // the length of its lists.
-ghost use Rattle.std.specs.Prelude.{◌≡◌, true, cond};
-ghost use Rattle.fields.specs.Field.{fields, whole};
-ghost use Rattle.fields.specs.Table.{Listed, Room};
-ghost use Rattle.conditions.specs.Conditions.{split_first, split_each, negated_first, negated_each};
-ghost use Rattle.conditions.specs.Table.{marks, conditions_at};
+ghost use Rattle.std.specs.Prelude.{◌≡◌, ◌+◌, ◌*◌, ◌^◌, ◌<◌, cond, length};
+ghost use Rattle.tags.specs.Tag.{Eq, Ge, between};
+ghost use Rattle.fields.specs.Field.{fields, front};
+ghost use Rattle.fields.specs.Row.{shown};
+ghost use Rattle.fields.specs.Table.{Listed};
+ghost use Rattle.fields.specs.Lists.{Lists};
+ghost use Rattle.conditions.specs.Conditions.{split_and, split_each, split_first, negated, negated_each, conditions_of};
+ghost use Rattle.conditions.specs.Table.{marks};
 
-use fields::front::{after_front, front_tag, is_whole, length_of, parts_of, tag_of};
-use fields::table::note;
+use fields::row::{Field, Fields};
+use fields::table::{Table, empty_table};
 use tags::{AND, DENIES, EQ, GE, NOT, OR};
 
-// What a number of the table has more if its condition is flipped. A file that passes question 1 has no place as large; of
-// a longer one a place is written modulo this number, so that the listing asks nothing of its caller.
+// What a number of the table has more if its condition is flipped: the scratch table that serves for conditions serves for places,
+// too. A file that passes question 1 has no place as large; of a longer one a place is written modulo this number, so that the
+// listing asks nothing of its caller.
 const FLIPPED: usize = 32768;
 
-// Lists what the expression at the front of s gives where it is required, from n of the table on; s stands at base. Nothing
-// where no whole field stands there.
-#[cycle(list_each_list_first_negate_first_split_first)]
-fn split_first(s: &[u8], base: usize, table: &mut [u16], n: usize) -> usize
-    requires { Room s.now base n }
-    ensures { Listed (marks (split_first base (fields s.now))) table.old n table.new result }
+// Eq, Ne, Lt, Gt, Le, Ge
+fn is_comparison(tag: u8) -> bool
+    ensures { result ≡ between Eq Ge tag }
 {
-    if !is_whole(s) {
-        return n;
-    }
-    if front_tag(s) == AND {
-        return list_each(parts_of(s), base + 3, false, table, n);
-    }
-    note(true, base % FLIPPED, table, n)
+    matches!(tag, EQ..=GE)
 }
 
-// The same where it is denied.
-#[cycle(list_each_list_first_negate_first_split_first)]
-fn negate_first(s: &[u8], base: usize, table: &mut [u16], n: usize) -> usize
-    requires { Room s.now base n }
-    ensures { Listed (marks (negated_first base (fields s.now))) table.old n table.new result }
+// Lists what an expression gives where it is required.
+#[cycle(split_negate)]
+fn split(field: Field, conditions: &mut Table<u16>)
+    requires { 3 * conditions.old.count + length field.part.now < 3 * 2 ^ 64 }
+    ensures { Lists (marks (split_and field.entry.place (front field.entry.part.now))) conditions.old conditions.new }
 {
-    if !is_whole(s) {
-        return n;
+    if field.tag() == AND {
+        return list_each(field.parts(), false, conditions);
     }
-    let here = front_tag(s);
-    if here == NOT {
-        return split_first(parts_of(s), base + 3, table, n);
-    }
-    if here == OR {
-        return list_each(parts_of(s), base + 3, true, table, n);
-    }
-    let comparison = (EQ <= here) & (here <= GE);
-    note(comparison, base % FLIPPED + FLIPPED, table, n)
+    conditions.note((field.place % FLIPPED) as u16)
 }
 
-// The same where it is denied or required.
-#[cycle(list_each_list_first_negate_first_split_first)]
-fn list_first(s: &[u8], base: usize, denied: bool, table: &mut [u16], n: usize) -> usize
-    requires { Room s.now base n }
-    ensures { Listed (marks (cond denied (negated_first base (fields s.now)) (split_first base (fields s.now)))) table.old n table.new result }
+// The same of the first of some fields in a row.
+#[cycle(split_negate)]
+fn split_front(mut parts: Fields, conditions: &mut Table<u16>)
+    requires { 3 * conditions.old.count + length parts.rest.now < 3 * 2 ^ 64 }
+    ensures { Lists (marks (split_first parts.entry.place (fields parts.entry.rest.now))) conditions.old conditions.new }
+{
+    if let Some(field) = parts.next() {
+        split(field, conditions);
+    }
+}
+
+// What an expression gives where it is denied.
+#[cycle(split_negate)]
+fn negate(field: Field, conditions: &mut Table<u16>)
+    requires { 3 * conditions.old.count + length field.part.now < 3 * 2 ^ 64 }
+    ensures { Lists (marks (negated field.entry.place (front field.entry.part.now))) conditions.old conditions.new }
+{
+    let tag = field.tag();
+    if tag == NOT {
+        return split_front(field.parts(), conditions);
+    }
+    if tag == OR {
+        return list_each(field.parts(), true, conditions);
+    }
+    if is_comparison(tag) {
+        conditions.note((field.place % FLIPPED + FLIPPED) as u16);
+    }
+}
+
+// What an expression gives where it is denied or required.
+#[cycle(split_negate)]
+fn list_one(field: Field, denied: bool, conditions: &mut Table<u16>)
+    requires { 3 * conditions.old.count + length field.part.now < 3 * 2 ^ 64 }
+    ensures { Lists (marks (cond denied (negated field.entry.place (front field.entry.part.now)) (split_and field.entry.place (front field.entry.part.now)))) conditions.old conditions.new }
 {
     if denied {
-        return negate_first(s, base, table, n);
+        negate(field, conditions);
+    } else {
+        split(field, conditions);
     }
-    split_first(s, base, table, n)
 }
 
-// The same of every field of s.
-#[cycle(list_each_list_first_negate_first_split_first)]
-fn list_each(s: &[u8], base: usize, denied: bool, table: &mut [u16], n: usize) -> usize
-    requires { Room s.now base n }
-    ensures { Listed (marks (cond denied (negated_each base (fields s.now)) (split_each base (fields s.now)))) table.old n table.new result }
+// The same of each of some fields in a row.
+#[cycle(split_negate)]
+fn list_each(parts: Fields, denied: bool, conditions: &mut Table<u16>)
+    requires { 3 * conditions.old.count + length parts.rest.now < 3 * 2 ^ 64 }
+    ensures { Lists (marks (cond denied (negated_each parts.entry.place (fields parts.entry.rest.now)) (split_each parts.entry.place (fields parts.entry.rest.now)))) conditions.old conditions.new }
 {
-    let mut t = s;
-    let mut at = base;
-    let mut m = n;
-    while is_whole(t) {
-        m = list_first(t, at, denied, table, m);
-        at += 3 + length_of(t);
-        let u = after_front(t);
-        t = u;
+    for part in parts {
+        list_one(part, denied, conditions);
     }
-    m
 }
 
-// Lists the conditions of the clause or guard at the front of s, which stands at a place of its entry, as far as the table has
-// room, and answers how many there are. A number is the place of the condition's expression, counted from the entry's own,
-// with 32,768 more if the condition is flipped.
-pub fn list_conditions(s: &[u8], at: usize, table: &mut [u16]) -> usize
-    requires there { whole s.now ≡ true }
-    requires room { Room s.now at 0 }
-    ensures { Listed (marks (conditions_at s.now at)) table.old 0 table.new result }
+// Lists the conditions of a clause or a guard, which stands at a place of its entry, as far as the table has room. A number is the place
+// of the condition's expression, counted from the entry's own, with 32,768 more if the condition is flipped.
+pub fn list_conditions<'t>(field: Field, table: &'t mut [u16]) -> Table<'t, u16>
+    ensures { Listed (marks (conditions_of (shown field.entry))) table.old 0 result.items.now result.count }
 {
-    list_first(parts_of(s), at + 3, tag_of(s) == DENIES, table, 0)
+    let mut conditions = empty_table(table);
+    if let Some(expression) = field.parts().next() {
+        list_one(expression, field.tag() == DENIES, &mut conditions);
+    }
+    conditions
 }

@@ -25,8 +25,5 @@ fn opposite_of(tag: u8) -> u8
 pub fn operator_of(tag: u8, flipped: bool) -> u8
     ensures { result ≡ cond flipped (opposite tag) tag }
 {
-    if flipped {
-        return opposite_of(tag);
-    }
-    tag
+    if flipped { opposite_of(tag) } else { tag }
 }

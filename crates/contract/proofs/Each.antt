@@ -1,25 +1,26 @@
 -- The records of a file that is refused, and those with the refusal of question 9, by whether there are entries.
-use Rattle.std.proofs.Common.{ℕ, zero, suc, ◌≤◌, ◌<◌, ◌≡◌, refl, sym, ap, ◌∙◌, List, append-nil, arith, pos_of_ne-zero, length}
+use Rattle.std.proofs.Common.{ℕ, zero, suc, ◌≤◌, ◌<◌, ◌≡◌, refl, sym, ap, ◌∙◌, List, append-nil, arith, pos_of_ne-zero, length, Ok, Err}
 use mathlib.Core.List.{flat_map}
 use Rattle.fields.specs.Field.{Field, fields, nothing}
 use Rattle.model.specs.Model.{entries}
 use Rattle.questions.specs.Questions.{Asked, passes, fails, ask_file}
-use Rattle.questions.specs.Answers.{asked}
-use Rattle.questions.specs.declared.check.Answer.{Answer}
-use Rattle.questions.specs.declared.check.Answer.TheVariants.{Passes, Refused}
+use Rattle.questions.specs.Answers.{Answered, number_of, asked}
+use Rattle.questions.specs.declared.question.Refusal.{Refusal}
+use Rattle.verdict.specs.declared.numbers.Outcome.TheVariants.{Refused}
 use Rattle.claim.specs.Verdict.{refused, verdict, outcome, first_of, second_of, written}
 use Rattle.claim.proofs.Fitting.{answered-short}
 use Rattle.verdict.proofs.Asking.{ninth}
-use Rattle.output.specs.Output.{Written}
+use Rattle.output.specs.Writes.{Writes}
+use Rattle.output.specs.declared.Output.{Output}
 use Rattle.contract.specs.Records.{recorded, verdict_on, record_on, below, at_least_one, records, largest, outcome_of_all, covers_enough}
 use Rattle.contract.specs.Coded.{head_of}
 use Rattle.contract.specs.Each.{record_count, each_record, largest_of_each, EachRecorded, AllRecorded, RefusalRecorded}
 use Rattle.contract.specs.declared.records.Recorded.{Recorded}
 
-pub refusal-recorded : (k p : ℕ) (t u : List ℕ) (r : ℕ) → Written (head_of (record { outcome = 2; first = k; second = p })) t 0 u r →
-    RefusalRecorded k p t u (record { outcome = 2; count = 1; end = r })
+pub refusal-recorded : (k p : ℕ) (a b : Output) → Writes (head_of (record { outcome = Refused; first = k; second = p })) a b → (t u : List ℕ) → a.buffer.now ≡ t → a.written ≡ 0 → b.buffer.now ≡ u →
+    RefusalRecorded k p t u (record { outcome = Refused; count = 1; end = b.written })
 unfolding recorded head_of outcome first_of second_of written
-refusal-recorded k p t u r w = record { what = refl; many = refl; bytes = rw append-nil w }
+refusal-recorded k p a b w t u e f g = record { what = refl; many = refl; bytes = rw (append-nil, ← e, ← f, ← g) w.bytes }
 
 -- a refusal is about no entry
 refusal-same : (entry : Field) (k p : ℕ) → recorded entry (refused k p) ≡ recorded nothing (refused k p)
@@ -27,15 +28,16 @@ unfolding recorded second_of
 refusal-same entry k p = refl
 
 -- by the answer to questions 1 to 8
-module _ (file : List ℕ) (a : Answer) (e : asked a ≡ ask_file file) where
+module _ (file : List ℕ) (a : Answered) (e : asked a ≡ ask_file file) where
   -- the longer table has a number for each three bytes
-  pub table-enough : a ≡ Passes → length file ≤ 32769
+  pub table-enough : a ≡ Ok tt → length file ≤ 32769
   table-enough f = omega (arith, answered-short file a e f)
 
-  pub refused-each : (k p : ℕ) → a ≡ Refused k p → (t u : List ℕ) (r : Recorded) → RefusalRecorded k p t u r → EachRecorded file t u r
+  pub refused-each : (d : Refusal) → a ≡ Err d → (m k : ℕ) → m ≡ number_of d.question → k ≡ m → (t u : List ℕ) (r : Recorded) → RefusalRecorded k d.place t u r →
+      EachRecorded file t u r
   unfolding largest_of_each record_count each_record
-  refused-each k p f t u r w =
-      let h : ask_file file ≡ fails k p = sym e ∙ ap asked f in
+  refused-each d f m k q o t u r w =
+      let h : ask_file file ≡ fails k d.place = sym e ∙ ap asked f ∙ ap (λ n. fails n d.place) (sym (o ∙ q)) in
       record { what = rw (largest_of_each, h) w.what; many = rw (record_count, h) w.many; bytes = rw (each_record, h) w.bytes }
 
 pub some-there : (n : ℕ) → 0 < n → at_least_one n ≡ n

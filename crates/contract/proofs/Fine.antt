@@ -1,13 +1,12 @@
 -- Each "no" has a small number, and a place in the file: places go up field by field, and the fields take the file's bytes.
-use Rattle.std.proofs.Common.{ℕ, zero, suc, ◌+◌, ◌*◌, ◌%◌, ◌≤◌, ◌<◌, ◌≡◌, refl, sym, ap, ◌∙◌, Bool, true, false, not, ◌||◌, List, [], ◌∷◌, ◌++◌, map, arith, leb-true, leb, ltb, length}
+use Rattle.std.proofs.Common.{ℕ, zero, suc, ◌+◌, ◌*◌, ◌≤◌, ◌<◌, ◌≡◌, refl, sym, ap, ◌∙◌, Bool, true, false, not, ◌||◌, List, [], ◌∷◌, ◌++◌, arith, leb-true, leb, ltb, length}
 use Rattle.std.proofs.Common.{get_or, drop, get_or-drop}
 use Rattle.std.proofs.Common.{Option}
 use Rattle.std.proofs.Common.{None, Some}
-use lib.ListN.{get_or-map}
 use Rattle.laws.specs.Lists.{any, filter}
 use Rattle.laws.specs.Texts.{same_bytes}
 use Rattle.laws.proofs.Lists.{Every, every-filter, every-at}
-use Rattle.tags.specs.Tag.{State, Entry, Call, is_expression, between}
+use Rattle.tags.specs.Tag.{State, Entry, is_expression, between}
 use Rattle.fields.specs.Field.{Field, Fields, Placed, fields, tag, size, sizes, placed, placed_from}
 use Rattle.fields.specs.Field.Field.{field}
 use Rattle.fields.specs.Field.Fields.{end, next}
@@ -17,12 +16,12 @@ use Rattle.model.specs.Model.{states, entries, name_of}
 use Rattle.grammar.specs.Grammar.{slots_of, advance, complete}
 use Rattle.questions.specs.Questions.{Asked, passes, fails, ask, ◌and_then◌, content_allowed, depth_inside, ask_field, ask_fields, ask_names, at_most, ask_form, ask_file}
 use Rattle.walking.specs.Walking.{body_exprs, is_payout, payouts}
-use Rattle.walking.specs.Table.{placed_at, places_of}
-use Rattle.entries.specs.Calls.{passes_at, places_where, body_where}
+use Rattle.walking.specs.Table.{placed_at}
+use Rattle.entries.specs.Calls.{body_where}
 use Rattle.entries.specs.Entered.{nowhere}
 use Rattle.claim.specs.Verdict.{backing_count, entry_at, ask_entry}
 use Rattle.walking.proofs.Calls.{payout-call}
-use Rattle.entries.proofs.Called.{places-where}
+use Rattle.entries.proofs.Called.{places-small}
 use Rattle.verdict.proofs.Asking.{entries-stand}
 
 -- the largest number that fits in two bytes
@@ -99,6 +98,13 @@ module _ (b : ℕ) where
   ends_at (p ∷ ps) e zero = e.0
   ends_at (p ∷ ps) e (suc n) = ends_at ps e.1 n
 
+-- an entry stands within the file
+pub entry-inside : (file : List ℕ) (n : ℕ) → n < length (entries (fields file)) → (entry_at (fields file) n).place ≤ length file
+unfolding entries placed_from
+entry-inside file n h =
+    let all : Every (Ends (length file)) (placed 0 (fields file)) = row_ends (length file) 0 (fields file) (omega (arith, tree-size file)) in
+    every-at (Ends (length file)) (entries (fields file)) (every-filter (Ends (length file)) (λ p. between Entry Entry (tag p.this)) (placed 0 (fields file)) all) n nowhere h
+
 -- of a file that passes question 1
 module _ (file : List ℕ) (short : length file ≤ 32768) where
   fields-end : Every (Ends most_in_two_bytes) (placed 0 (fields file))
@@ -132,15 +138,9 @@ module _ (file : List ℕ) (short : length file ≤ 32768) where
         ap (λ x. record { place = entry.place; this = x }) q
 
     payout-ends : (get_or (body_where is_payout entry) 64 nowhere).place ≤ most_in_two_bytes
-    unfolding places_where
     payout-ends =
-        let c : places_where file is_payout (places_of Call (body_exprs entry)) ≡ map (λ p. p.place) (body_where is_payout entry) =
-        rw same at (places-where file is_payout payout-call entry.place (omega (arith, short))) in
-        let ks = filter (passes_at file is_payout) (places_of Call (body_exprs entry)) in
-        let e : (get_or (body_where is_payout entry) 64 nowhere).place ≡ get_or ks 64 0 % 65536 =
-        sym (get_or-map (λ p. p.place) (body_where is_payout entry) 64 nowhere)
-        ∙ sym (ap (λ l. get_or l 64 0) c) ∙ get_or-map (λ k. k % 65536) ks 64 0 in
-        omega (arith, e)
+        let small = places-small file is_payout payout-call entry.place (omega (arith, short)) 64 in
+        omega (arith, rw same at small)
 
     pub fine-entry : (lent : ℕ) → Fine most_in_two_bytes (ask_entry (fields file) n lent)
     unfolding ask_entry

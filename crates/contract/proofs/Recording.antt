@@ -1,110 +1,119 @@
--- The records of the entries before one are written, and the largest of what those are is known; without that one it is all.
-use Rattle.std.proofs.Common.{ℕ, suc, ◌-◌, ◌*◌, ◌≤◌, ◌<◌, ◌≡◌, refl, ap, true, false, List, arith, length, take, drop}
+-- The records of the entries so far are written, and the largest of what those are is known. The next entry is the one that the row
+-- yields then, and where it yields none these are all.
+use Rattle.std.proofs.Common.{ℕ, suc, ◌+◌, ◌*◌, ◌≤◌, ◌<◌, ◌≡◌, refl, sym, ap, ◌∙◌, cond, List, eqb, filter, arith, ltb, length, get_or}
+use Rattle.std.proofs.lemmas.List.{get_or_default}
 use mathlib.Core.List.{flat_map}
-use Rattle.walking.specs.Table.{placed_at}
+use Rattle.laws.proofs.Lists.{every-at}
 use Rattle.tags.specs.Tag.{Entry}
-use Rattle.fields.specs.Field.{fields, whole, after, from, from_nth}
+use Rattle.tags.proofs.Ranges.{between-one}
+use Rattle.fields.specs.Field.{Placed, fields, placed, placed_from, tag}
+use Rattle.fields.proofs.Inside.{Stands}
+use Rattle.walking.specs.Table.{placed_at}
+use Rattle.entries.specs.Entered.{entry_of}
 use Rattle.model.specs.Model.{entries}
-use Rattle.model.specs.Shown.{shown}
-use Rattle.model.proofs.Accessors.{shown-nth}
 use Rattle.questions.specs.Questions.{passes, ask_file}
-use Rattle.reserves.specs.Holding.{Facts, Known}
+use Rattle.fundings.specs.declared.facts.Facts.{Facts}
+use Rattle.reserves.specs.Holding.{FactsOf, Known}
 use Rattle.claim.specs.Verdict.{entry_at, verdict}
 use Rattle.claim.proofs.Fitting.{short-file}
-use Rattle.verdict.specs.Place.{Found}
-use Rattle.verdict.specs.declared.entry.Place.TheVariants.{At, Nowhere}
-use Rattle.verdict.proofs.Asking.{place-nowhere, place-there, entry-missing, entry-counted, entry-there, not-ninth}
-use Rattle.output.specs.Output.{Written}
-use Rattle.output.proofs.Buffer.{written_none, written-within, same-room, written_then}
+use Rattle.std.specs.Ordering.{ord_max}
+use Rattle.verdict.specs.contracts.numbers.OutcomeOrd.TheImpl.{cmp-value}
+use Rattle.verdict.specs.Outcomes.{outcome_number}
+use Rattle.verdict.specs.declared.numbers.Outcome.{Outcome}
+use Rattle.verdict.specs.declared.numbers.Outcome.TheVariants.{Accepted, Rejected, Refused}
+use Rattle.verdict.proofs.Asking.{entries-stand, not-ninth}
+use Rattle.output.specs.Writes.{Writes}
+use Rattle.output.specs.declared.Output.{Output}
+use Rattle.output.proofs.Buffer.{writes-none, writes_then}
 use Rattle.contract.specs.Records.{recorded, verdict_on, record_on, below, largest, covers_enough}
-use Rattle.contract.specs.Coded.{entry_in, verdict_in}
-use Rattle.contract.specs.Each.{record_count, each_record, outcome_on, largest_of_each, EachRecorded, Extensible, OneMore}
-use Rattle.contract.specs.declared.records.Recorded.{Recorded}
+use Rattle.contract.specs.Coded.{verdict_at}
+use Rattle.contract.specs.Each.{record_count, each_record, outcome_on, largest_of_each, EachRecorded, EntryRecorded}
 use Rattle.contract.proofs.Passed.{few-entries}
+use Rattle.contract.proofs.Fine.{entry-inside}
 use Rattle.contract.proofs.Below.{each-then}
 
--- t is the file from the next entry on
-pub record Recording (file lent before scratch out facts t : List ℕ) (x : Recorded) : Type 0 where
-  pub passed : ask_file file ≡ passes
+-- the fields of a file that are entries
+pub entries-of : (file s : List ℕ) (n : ℕ) → s ≡ file → n ≡ 0 → filter (λ p. eqb (tag p.this) Entry) (placed n (fields s)) ≡ entries (fields file)
+unfolding entries placed_from
+entries-of file s n e f = rw (e, f) (simp between-one)
+
+-- the larger of two numbers
+abbrev pub larger : ℕ → ℕ → ℕ
+larger a b = cond (ltb a b) b a
+
+-- as the worse of two outcomes has it
+pub worse-of : (a b : Outcome) → outcome_number (ord_max cmp-value.it a b) ≡ larger (outcome_number a) (outcome_number b)
+worse-of Accepted Accepted = refl
+worse-of Accepted Rejected = refl
+worse-of Accepted Refused = refl
+worse-of Rejected Accepted = refl
+worse-of Rejected Rejected = refl
+worse-of Rejected Refused = refl
+worse-of Refused Accepted = refl
+worse-of Refused Rejected = refl
+worse-of Refused Refused = refl
+
+-- of the first entries, as many as are counted
+pub record Recording (file : List ℕ) (start output : Output) (scratch : List ℕ) (facts : Facts) (count : ℕ) (outcome : Outcome) : Type 0 where
   pub known : Known file facts scratch
-  pub same : length scratch ≡ length lent
-  pub here : t ≡ from_nth Entry Entry x.count file
-  pub counted : x.count ≤ length (entries (fields file))
-  pub worst : x.outcome ≡ largest (outcome_on file) x.count
-  pub bytes : Written (flat_map (record_on file) (below x.count)) before 0 out x.end
+  pub worst : outcome_number outcome ≡ largest (outcome_on file) count
+  pub bytes : Writes (flat_map (record_on file) (below count)) start output
 
-module _ (file lent before : List ℕ) where
-  pub recording-none : ask_file file ≡ passes → length file ≤ 3 * length lent → (facts : List ℕ) → Facts file facts →
-      (t : List ℕ) → t ≡ from Entry Entry file → Recording file lent before lent before facts t (record { outcome = 0; count = 0; end = 0 })
-  unfolding from_nth largest below flat_map
-  recording-none p l facts q t e =
-      record {
-        passed = p;
-        known = record { short = short-file file p; room = l; right = q };
-        same = refl;
-        here = e;
-        counted = omega arith;
-        worst = refl;
-        bytes = written_none before 0 (omega arith);
-      }
+module _ (file : List ℕ) (p : ask_file file ≡ passes) (start : Output) where
+  pub recording-none : (facts : Facts) (scratch : List ℕ) → FactsOf file facts → length file ≤ 3 * length scratch → Recording file start start scratch facts 0 Accepted
+  unfolding largest below flat_map
+  recording-none facts scratch q l = record {
+    known = record { short = short-file file p; room = l; right = q };
+    worst = refl;
+    bytes = writes-none start;
+  }
 
-  module _ (scratch out facts t : List ℕ) (x : Recorded) (i : Recording file lent before scratch out facts t x) where
-    shown-here : shown file t ≡ take 1 (drop x.count (entries (fields file)))
-    unfolding entries
-    shown-here = shown-nth Entry Entry x.count file t i.here
+  -- what the row yields is the next entry
+  module _ (count : ℕ) (next : Placed) (h : (count < length (entries (fields file))) × (next ≡ get_or (entries (fields file)) count next)) where
+    pub next-counted : count < 64
+    next-counted = omega (arith, h.0, few-entries file p)
 
-    pub recording-same : length out ≡ length before
-    recording-same = same-room (flat_map (record_on file) (below x.count)) before 0 out x.end i.bytes
+    next-entry : next ≡ entry_at (fields file) count
+    next-entry = h.1 ∙ get_or_default (entries (fields file)) count next _ h.0
 
-    pub recording-all : whole t ≡ false → EachRecorded file before out x
-    unfolding largest_of_each record_count each_record
-    recording-all g =
-        let p : ask_file file ≡ passes = i.passed in
-        let e : length (entries (fields file)) ≡ x.count = omega (arith, i.counted, entry-missing file x.count Nowhere (place-nowhere file x.count t shown-here g) refl) in
-        record { what = rw (largest_of_each, p, e) i.worst; many = rw (record_count, p, e); bytes = rw (each_record, p, e) i.bytes }
+    pub next-inside : next.place ≤ length file
+    next-inside = rw next-entry (entry-inside file count h.0)
 
-    module _ (g : whole t ≡ true) where
-      found : Found file x.count (At (length file - length t))
-      found = place-there file x.count t shown-here g (length file - length t) refl
+    -- which stands at its place
+    next-there : entry_at (fields file) count ≡ placed_at file next.place
+    next-there =
+        let q : Stands file (entry_at (fields file) count) = every-at (Stands file) (entries (fields file)) (entries-stand file) count _ h.0 in
+        rw next-entry (ap (λ f. record { place = (entry_at (fields file) count).place; this = f }) (sym q))
 
-      there : x.count < length (entries (fields file))
-      there = entry-counted file x.count (At (length file - length t)) found (length file - length t) refl
+    next-verdict : verdict_on file count ≡ verdict_at file next.place
+    unfolding verdict_on verdict
+    next-verdict = rw (verdict_on, verdict, p) (not-ninth (fields file) count covers_enough h.0 (placed_at file next.place) next-there)
 
-      entry_here : entry_at (fields file) x.count ≡ placed_at file (length file - length t)
-      entry_here = entry-there file x.count (At (length file - length t)) found (length file - length t) refl
+    next-record : record_on file count ≡ recorded (entry_of file next.place) (verdict_at file next.place)
+    unfolding record_on
+    next-record =
+        let e : (entry_at (fields file) count).this ≡ entry_of file next.place = ap (λ q. q.this) next-there in
+        rw (record_on, e, next-verdict)
 
-      pub recording-extensible : Extensible out x
-      recording-extensible =
-          record {
-            room = written-within (flat_map (record_on file) (below x.count)) before 0 out x.end i.bytes;
-            few = omega (arith, there, few-entries file i.passed);
-          }
+    pub recording_on : (output : Output) (scratch : List ℕ) (facts : Facts) (outcome : Outcome) → Recording file start output scratch facts count outcome →
+        (after : Output) (what : Outcome) → EntryRecorded file next.place output after what → (used : List ℕ) (held : Facts) → length used ≡ length scratch → FactsOf file held →
+        (worse : Outcome) → outcome_number worse ≡ larger (outcome_number outcome) (outcome_number what) → Recording file start after used held (count + 1) worse
+    unfolding largest below
+    recording_on output scratch facts outcome i after what r used held equal q m e =
+        let one : count + 1 ≡ suc count = omega arith in
+        record {
+          known = record { short = i.known.short; room = rw equal i.known.room; right = q };
+          worst = rw (one, next-verdict, ← i.worst, ← r.what) e;
+          bytes = rw (one, each-then (record_on file) (below count) count, next-record)
+              (writes_then start (flat_map (record_on file) (below count)) _ output after i.bytes r.bytes);
+        }
 
-      verdict-here : verdict_on file x.count ≡ verdict_in file t
-      unfolding verdict_on verdict
-      verdict-here =
-          let p : ask_file file ≡ passes = i.passed in
-          rw (verdict_on, verdict, p) (not-ninth (fields file) x.count covers_enough there (placed_at file (length file - length t)) entry_here)
-
-      record-here : record_on file x.count ≡ recorded (entry_in file t) (verdict_in file t)
-      unfolding record_on
-      record-here =
-          let e : (entry_at (fields file) x.count).this ≡ entry_in file t = ap (λ p. p.this) entry_here in
-          rw (record_on, e, verdict-here)
-
-      pub recording_on : (v : List ℕ) (y : Recorded) → OneMore file t out v x y → (held : List ℕ) → Facts file held →
-          (used : List ℕ) → length used ≡ length scratch →
-          (s next : List ℕ) → s ≡ after t → next ≡ from Entry Entry s → Recording file lent before used v held next y
-      unfolding from_nth largest below
-      recording_on v y o held q used equal s next e f =
-          let one : y.count ≡ suc x.count = omega (arith, o.many) in
-          record {
-            passed = i.passed;
-            known = record { short = i.known.short; room = omega (arith, i.known.room, equal); right = q };
-            same = omega (arith, i.same, equal);
-            here = rw (one, ← i.here, ← e) f;
-            counted = omega (arith, there, one);
-            worst = rw (one, verdict-here, ← i.worst) o.what;
-            bytes = rw (one, each-then (record_on file) (below x.count) x.count, record-here)
-                (written_then (flat_map (record_on file) (below x.count)) before 0 out x.end i.bytes (recorded (entry_in file t) (verdict_in file t)) v y.end o.bytes);
-          }
+  pub recording-all : (output : Output) (scratch : List ℕ) (facts : Facts) (count : ℕ) (outcome : Outcome) → Recording file start output scratch facts count outcome →
+      count ≡ length (entries (fields file)) → (out after : List ℕ) → start.buffer.now ≡ out → start.written ≡ 0 → output.buffer.now ≡ after →
+      EachRecorded file out after (record { outcome = outcome; count = count; end = output.written })
+  unfolding largest_of_each record_count each_record
+  recording-all output scratch facts count outcome i e out after f g h = record {
+    what = rw (largest_of_each, p, ← e) i.worst;
+    many = rw (record_count, p) e;
+    bytes = rw (each_record, p, ← e, ← f, ← g, ← h) i.bytes.bytes;
+  }

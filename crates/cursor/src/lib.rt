@@ -7,13 +7,13 @@ ghost use Rattle.cursor.specs.Cursor.{head_at, text_at, part_at};
 use fields::bytes::skip;
 use fields::front::{front_tag, length_of};
 
-#[derive(Drop)]
+#[derive(Clone, Copy)]
 pub struct Cursor {
     pub at: usize,
 }
 
 // A head of three bytes, and the cursor at the content.
-#[derive(Drop)]
+#[derive(Clone, Copy)]
 pub enum Head {
     Found {
         tag: u8,
@@ -25,7 +25,7 @@ pub enum Head {
 }
 
 // A text, which stands from start up to end.
-#[derive(Drop)]
+#[derive(Clone, Copy)]
 pub enum Text {
     Found {
         start: usize,
@@ -36,7 +36,7 @@ pub enum Text {
 }
 
 // A whole field, whose content stands from start up to end.
-#[derive(Drop)]
+#[derive(Clone, Copy)]
 pub enum Part {
     Found {
         tag: u8,
@@ -52,33 +52,32 @@ impl Cursor {
     pub fn head(self, s: &[u8]) -> Head
         ensures { result ≡ head_at s.now self.at }
     {
-        let at = self.at;
-        let t = skip(s, at);
-        if 3 <= t.len() {
-            return Head::Found {
-                tag: front_tag(t),
-                length: length_of(t),
-                next: Cursor { at: at + 3 },
-            };
+        let rest = skip(s, self.at);
+        if rest.is_empty() {
+            return Head::End;
         }
-        if 1 <= t.len() {
+        if rest.len() < 3 {
             return Head::Cut;
         }
-        Head::End
+        Head::Found {
+            tag: front_tag(rest),
+            length: length_of(rest),
+            next: Cursor { at: self.at + 3 },
+        }
     }
 
     pub fn text(self, s: &[u8], length: usize) -> Text
         ensures { result ≡ text_at s.now self.at length }
     {
-        let at = self.at;
-        if length <= skip(s, at).len() {
-            return Text::Found {
-                start: at,
-                end: at + length,
-                next: Cursor { at: at + length },
-            };
+        if skip(s, self.at).len() < length {
+            return Text::Cut;
         }
-        Text::Cut
+        let end = self.at + length;
+        Text::Found {
+            start: self.at,
+            end: end,
+            next: Cursor { at: end },
+        }
     }
 
     pub fn part(self, s: &[u8]) -> Part

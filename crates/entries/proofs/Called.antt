@@ -1,6 +1,6 @@
 -- The table of an entry's payouts or debits: what was chosen among the calls are all there are, in walk order, each at its
 -- place in the file.
-use Rattle.std.proofs.Common.{ℕ, ◌%◌, ◌≤◌, ◌<◌, ◌≡◌, refl, sym, ap, ◌∙◌, Bool, true, false, cond, List, [], ◌∷◌, map, arith, zero-add, eqb, length, get_or, take}
+use Rattle.std.proofs.Common.{ℕ, zero, suc, ◌%◌, ◌≤◌, ◌<◌, ◌≡◌, refl, sym, ap, ◌∙◌, Bool, true, false, cond, List, [], ◌∷◌, map, arith, zero-add, eqb, length, get_or, take}
 use lib.ListN.{length-map, get_or-map}
 use lib.Seq.{sets}
 use Rattle.laws.proofs.Tables.{sets-at}
@@ -32,28 +32,32 @@ module _ (file : List ℕ) (test : Field → Bool) where
       go true f = rw f
       go false f = f
 
-  abbrev small : List Placed → List ℕ
-  small ps = filter (passes_at file test) (map (λ p. p.place % 65536) ps)
-
-  small-kept : (ps : List Placed) → map (λ k. k % 65536) (small ps) ≡ small ps
-  small-kept [] = refl
-  small-kept (p ∷ ps) = go (passes_at file test (p.place % 65536)) (small-kept ps)
-    where
-      go : (k : Bool) → map (λ j. j % 65536) (small ps) ≡ small ps →
-          map (λ j. j % 65536) (cond k (p.place % 65536 ∷ small ps) (small ps)) ≡ cond k (p.place % 65536 ∷ small ps) (small ps)
-      go true f = let m : p.place % 65536 % 65536 ≡ p.place % 65536 = omega arith in rw (m, f)
-      go false f = f
-
   -- what passes the test is a call, so that all are among the calls
   pub places-where : ((f : Field) → test f ≡ true → is_call f ≡ true) → (n : ℕ) → length file < 65536 →
       places_where file test (places_of Call (body_exprs (placed_at file n))) ≡ map (λ p. p.place) (body_where test (placed_at file n))
-  unfolding places_where
   places-where called n h =
       let ps = body_exprs (placed_at file n) in
-      small-kept (of_tag Call ps)
-      ∙ rw (body-places file n Call h)
+      rw (body-places file n Call h)
       (kept-places (of_tag Call ps) (every-filter (Stands file) (λ p. eqb (tag p.this) Call) ps (body-stands file (placed_at file n) refl))
       ∙ ap (λ l. map (λ p. p.place) l) (filter-first (λ p. test p.this) (λ p. eqb (tag p.this) Call) (λ p k. called p.this k) ps))
+
+-- each of them stands where two bytes say
+small-places : (ps : List Placed) → Every (λ k. k < 65536) (map (λ p. p.place % 65536) ps)
+small-places [] = tt
+small-places (p ∷ ps) = (omega arith, small-places ps)
+
+small-at : (ks : List ℕ) → Every (λ k. k < 65536) ks → (i : ℕ) → get_or ks i 0 < 65536
+small-at [] h i = omega arith
+small-at (k ∷ ks) h zero = h.0
+small-at (k ∷ ks) h (suc i) = small-at ks h.1 i
+
+pub places-small : (file : List ℕ) (test : Field → Bool) → ((f : Field) → test f ≡ true → is_call f ≡ true) → (n : ℕ) → length file < 65536 → (i : ℕ) →
+    (get_or (body_where test (placed_at file n)) i nowhere).place < 65536
+places-small file test called n h i =
+    let small : get_or (places_where file test (places_of Call (body_exprs (placed_at file n)))) i 0 < 65536 =
+    small-at _ (every-filter (λ k. k < 65536) (passes_at file test) _ (small-places (of_tag Call (body_exprs (placed_at file n))))) i in
+    let e = ap (λ l. get_or l i 0) (places-where file test called n h) ∙ get_or-map (λ p. p.place) (body_where test (placed_at file n)) i nowhere in
+    rw e at small
 
 -- without their places they are the entry's payouts, or its debits
 fields-where : (test : Field → Bool) (ps : List Placed) → without_places (filter (λ p. test p.this) ps) ≡ filter test (without_places ps)

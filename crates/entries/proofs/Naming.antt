@@ -1,19 +1,23 @@
--- The asset parameters of an entry, one after the other: whoever lists the places of those that are left has listed all. Each
--- stands in the file at its place, so that its name is read there.
-use Rattle.std.proofs.Common.{ℕ, ◌+◌, ◌-◌, ◌^◌, ◌≤◌, ◌<◌, ◌≡◌, refl, sym, ap, ◌∙◌, Bool, true, false, cond, List, [], ◌∷◌, ◌++◌, map, append_assoc, arith, w64, Fits, length, get_or, take}
-use Rattle.std.proofs.Common.{drop, length-take, length-drop, take_at, length-take-le}
+-- The asset parameters of an entry, listed along its parts. Each stands in the file at its place, so that its name is read there.
+use Rattle.std.proofs.Common.{ℕ, ◌+◌, ◌-◌, ◌≤◌, ◌<◌, ◌≡◌, refl, sym, ap, ◌∙◌, Bool, true, false, cond, ◌&&◌, List, [], ◌∷◌, ◌++◌, map, append_assoc, arith, eqb}
+use Rattle.std.proofs.Common.{length, get_or, take, drop, take_at, length-take-le}
 use mathlib.Core.List.{flat_map}
 use lib.ListN.{length-map, get_or-append}
 use lib.Seq.{sets-eq}
 use Rattle.laws.specs.Lists.{filter}
-use Rattle.laws.proofs.Lists.{Every, every-filter, map_at}
+use Rattle.laws.proofs.Lists.{Every, map_at}
 use Rattle.laws.proofs.Slices.{get_d-behind}
 use Rattle.tags.specs.Tag.{Parameter}
+use Rattle.tags.proofs.Ranges.{between-one}
+use Rattle.fields.specs.Field.{Fields as Tree, Placed, fields, front, tag, parts, size, row, fields_from, placed}
+use Rattle.fields.specs.Field.Fields.{end, next}
+use Rattle.fields.specs.Lists.{Lists}
 use Rattle.fields.specs.Table.{Listed}
-use Rattle.fields.specs.Field.{Placed, fields, length_of, whole, after, front, parts, placed, placed_from, from}
-use Rattle.fields.proofs.Rows.{after-size, rest_of, from-shorter, from-placed, rest-next, placed_row}
-use Rattle.fields.proofs.Tables.{listed-none, listed_then, listed-long}
+use Rattle.fields.specs.declared.field.Fields.{Fields}
+use Rattle.fields.specs.declared.table.Table.{Table}
+use Rattle.fields.proofs.Gathering.{Gathers}
 use Rattle.fields.proofs.Inside.{Stands, parts-stand}
+use Rattle.fields.proofs.Places.{size-least}
 use Rattle.model.specs.Model.{name_of, params}
 use Rattle.walking.specs.Walking.{is_asset_parameter, asset_params}
 use Rattle.walking.specs.Table.{placed_at}
@@ -22,82 +26,29 @@ use Rattle.entries.specs.Calls.{asset_place, asset_places}
 
 -- Listing them
 
-pub record Naming (s : List ℕ) (base n : ℕ) (table last t : List ℕ) (m : ℕ) : Type 0 where
-  pub small : length s + base ≤ 32771
-  pub start : n ≤ 65536
-  pub within : length t ≤ length s
-  pub few : m + length t ≤ n + length s
-  pub wide : length last ≡ length table
-  pub left : (v : List ℕ) (r : ℕ) → Listed (flat_map asset_place (rest_of Parameter Parameter base s t)) last m v r → Listed (asset_places base (fields s)) table n v r
+one-at-most : (p : Placed) → length (asset_place p) ≤ 1
+unfolding asset_place
+one-at-most p = go (eqb (tag p.this) Parameter && is_asset_parameter p.this)
+  where
+    go : (k : Bool) → length {A = ℕ} (cond k (p.place ∷ []) []) ≤ 1
+    go true = omega arith
+    go false = omega arith
 
-pub naming-first : (file : List ℕ) (place n : ℕ) → Standing file place n → (d : List ℕ) → d ≡ drop place file → (k : ℕ) (s : List ℕ) → s ≡ take k (drop 3 d) →
-    (t : List ℕ) → t ≡ from Parameter Parameter s → (table : List ℕ) → Naming s (place + 3) n table table t n
-unfolding asset_places
-naming-first file place n h d f k s g t e table =
-    let l : length t ≤ length s = rw e (from-shorter Parameter Parameter s) in
-    let q : length s ≤ length file - place - 3 = rw (g, length-take, length-drop, f, length-drop) (omega arith) in
+pub parameters : Gathers (λ n f. asset_place (record { place = n; this = f })) asset_places
+unfolding flat_map placed
+parameters =
     record {
-      small = omega (arith, q, h.short, h.within);
-      start = h.few;
-      within = l;
-      few = omega arith;
-      wide = refl;
-      left = λ v r p. rw (from-placed Parameter Parameter s (place + 3), ← e) p;
+      none = λ n r. refl;
+      more = λ n f fs. refl;
+      few = λ n f. omega (arith, one-at-most (record { place = n; this = f }), size-least f);
     }
 
-module _ (s : List ℕ) (base n : ℕ) (table last t : List ℕ) (m : ℕ) (i : Naming s base n table last t m) where
-  pub naming-end : whole t ≡ false → (file : List ℕ) (place : ℕ) (d : List ℕ) → d ≡ drop place file → fields s ≡ parts (front d) →
-      Listed (asset_places base (parts (front (drop place file)))) table n last m
-  unfolding flat_map
-  naming-end w file place d f g =
-      let e : fields s ≡ parts (front (drop place file)) = g ∙ rw f in
-      rw (← e) (i.left last m (rw w (listed-none last m)))
-
-  pub place-fits : (place : ℕ) → base ≡ place + 3 → Fits w64 (place + 3)
-  place-fits place e = omega (arith, i.small, e)
-
-  pub naming-inside : length t ≤ length s
-  naming-inside = i.within
-
-  pub at-fits : Fits w64 (base + (length s - length t))
-  at-fits = omega (arith, i.small)
-
-  pub naming-place : base + (length s - length t) < 65536
-  naming-place = omega (arith, i.small)
-
-  pub naming-room : length s < 2 ^ 64 → m + 1 < 2 ^ 64
-  naming-room h = omega (arith, i.few, i.start, i.small)
-
-  module _ (w : whole t ≡ true) (hit : Bool) (e : hit ≡ is_asset_parameter (front t)) (u : List ℕ) (k : ℕ)
-      (p : Listed (cond hit ((base + (length s - length t)) ∷ []) []) last m u k) (y j : List ℕ) (a : y ≡ after t) (b : j ≡ from Parameter Parameter y) where
-    abbrev here : Placed
-    here = record { place = base + (length s - length t); this = front t }
-
-    listed_here : Listed (asset_place here) last m u k
-    unfolding asset_place
-    listed_here = rw (← e) p
-
-    next-listed : (v : List ℕ) (r : ℕ) → Listed (flat_map asset_place (rest_of Parameter Parameter base s j)) u k v r →
-        Listed (flat_map asset_place (rest_of Parameter Parameter base s t)) last m v r
-    unfolding flat_map
-    next-listed v r q = rw (w, rest-next Parameter Parameter base s t i.within, ← a, ← b) (listed_then _ _ last u v m k r listed_here q)
-
-    one_at_most : (c : Bool) (x : ℕ) → length (cond c (x ∷ []) []) ≤ 1
-    one_at_most true x = omega arith
-    one_at_most false x = omega arith
-
-    pub naming-on : Naming s base n table u j k
-    naming-on =
-        let l : length j ≤ length y = rw b (from-shorter Parameter Parameter y) in
-        let d : length t ≡ 3 + length_of t + length y = rw a (after-size t w) in
-        record {
-          small = i.small;
-          start = i.start;
-          within = omega (arith, i.within);
-          few = omega (arith, i.few, p.count, one_at_most hit (base + (length s - length t)));
-          wide = listed-long p ∙ i.wide;
-          left = λ v r q. i.left v r (next-listed v r q);
-        }
+-- the row lies in the file, so that each place takes two bytes
+module _ (all x : Fields) (g : all ≡ x) (s file : List ℕ) (place n : ℕ) (h : Standing file place n) (d : List ℕ) (f : d ≡ drop place file)
+    (k : ℕ) (w : s ≡ take k (drop 3 d)) (r : x.rest.now ≡ s) (z : x.place ≡ place + 3) where
+  pub parameters-listed : fields s ≡ parts (front d) → (t u : Table ℕ) → Lists (asset_places all.place (fields all.rest.now)) t u →
+      Lists (asset_places (place + 3) (parts (front (drop place file)))) t u
+  parameters-listed e t u p = rw (← f, ← e) (rw (g, r, z) at p)
 
 -- Reading them
 
@@ -105,23 +56,23 @@ module _ (s : List ℕ) (base n : ℕ) (table last t : List ℕ) (m : ℕ) (i : 
 abbrev pub name_at : List ℕ → ℕ → List ℕ
 name_at file k = name_of (front (drop k file))
 
-names-placed : (file : List ℕ) (ps : List Placed) → Every (Stands file) ps → map (name_at file) (flat_map asset_place ps) ≡ map name_of (filter is_asset_parameter (map (λ p. p.this) ps))
-unfolding flat_map asset_place
-names-placed file [] h = refl
-names-placed file (p ∷ ps) h = go (is_asset_parameter p.this) (names-placed file ps h.1)
+names-placed : (file : List ℕ) (n : ℕ) (fs : Tree) → Every (Stands file) (placed n fs) →
+    map (name_at file) (asset_places n fs) ≡ map name_of (filter is_asset_parameter (fields_from Parameter Parameter fs))
+unfolding flat_map asset_place placed fields_from row
+names-placed file n (end r) h = refl
+names-placed file n (next f fs) h = rw (between-one Parameter (tag f)) (go (eqb (tag f) Parameter) (is_asset_parameter f) refl (names-placed file (n + size f) fs h.1))
   where
-    go : (k : Bool) → map (name_at file) (flat_map asset_place ps) ≡ map name_of (filter is_asset_parameter (map (λ q. q.this) ps)) →
-        map (name_at file) (cond k (p.place ∷ []) [] ++ flat_map asset_place ps)
-        ≡ map name_of (cond k (p.this ∷ filter is_asset_parameter (map (λ q. q.this) ps)) (filter is_asset_parameter (map (λ q. q.this) ps)))
-    go true e = rw (h.0, e)
-    go false e = e
+    go : (i k : Bool) → is_asset_parameter f ≡ k →
+        map (name_at file) (asset_places (n + size f) fs) ≡ map name_of (filter is_asset_parameter (fields_from Parameter Parameter fs)) →
+        map (name_at file) (cond (i && k) (n ∷ []) [] ++ asset_places (n + size f) fs)
+        ≡ map name_of (filter is_asset_parameter (cond i (f ∷ fields_from Parameter Parameter fs) (fields_from Parameter Parameter fs)))
+    go true true e r = rw (e, h.0, r)
+    go true false e r = rw e r
+    go false k e r = r
 
 pub names-read : (file : List ℕ) (place : ℕ) → map (name_at file) (asset_places (place + 3) (parts (front (drop place file)))) ≡ asset_params (front (drop place file))
-unfolding asset_places placed_from asset_params params
-names-read file place =
-    names-placed file (placed_from Parameter Parameter (place + 3) (parts (front (drop place file))))
-    (every-filter (Stands file) _ (placed (place + 3) (parts (front (drop place file)))) (parts-stand file (placed_at file place) refl))
-    ∙ ap (λ fs. map name_of (filter is_asset_parameter fs)) (placed_row Parameter Parameter (place + 3) (parts (front (drop place file))))
+unfolding asset_params params
+names-read file place = names-placed file (place + 3) (parts (front (drop place file))) (parts-stand file (placed_at file place) refl)
 
 module _ (file : List ℕ) (place : ℕ) (table : List ℕ) (n : ℕ) (last : List ℕ) (r : ℕ)
     (p : Listed (asset_places (place + 3) (parts (front (drop place file)))) table n last r)

@@ -1,13 +1,13 @@
 -- What is listed among the calls of an entry are its payouts and its debits, and behind these stand its asset parameters.
-use Rattle.std.proofs.Common.{ℕ, ◌+◌, ◌*◌, ◌%◌, ◌≤◌, ◌<◌, ◌≡◌, refl, sym, ap, ◌∙◌, Bool, true, false, List, arith, leb-true, length, get_or, take, drop, replicate, length-drop, length-take}
+use Rattle.std.proofs.Common.{ℕ, ◌+◌, ◌*◌, ◌≤◌, ◌<◌, ◌≡◌, refl, sym, ap, ◌∙◌, Bool, true, false, List, arith, leb-true, length, get_or, take, drop, replicate, length-drop, length-take}
 use Rattle.std.proofs.Common.{length-take-le, get_or-take}
 use lib.ListN.{length-map, length-replicate}
-use lib.Seq.{length-sets}
 use Rattle.laws.proofs.Lists.{filter-few, map_at}
-use Rattle.laws.specs.Lists.{filter}
 use Rattle.tags.specs.Tag.{Call}
 use Rattle.fields.specs.Field.{Field, whole, length_of, front, nothing, parts, size, sizes}
+use Rattle.fields.specs.Lists.{Lists}
 use Rattle.fields.specs.Table.{Listed, fields_at}
+use Rattle.fields.specs.declared.table.Table.{Table}
 use Rattle.fields.proofs.Reading.{front-none}
 use Rattle.fields.proofs.Places.{front-size}
 use Rattle.fields.proofs.Tables.{listed-front, listed-long}
@@ -17,7 +17,7 @@ use Rattle.walking.proofs.Callers.{body-few}
 use Rattle.walking.proofs.Calls.{payout-call, debit-call}
 use Rattle.tokens.specs.Numbers.{Standing}
 use Rattle.entries.specs.Calls.{passes_at, places_where, asset_places}
-use Rattle.entries.specs.Entered.{entry_of, Lent, CallsOf, PaidOf, BackedOf, Read, Entered}
+use Rattle.entries.specs.Entered.{entry_of, Lent, CallsOf, Read, Entered}
 use Rattle.entries.specs.declared.entry.Entry.{Entry}
 use Rattle.entries.proofs.Called.{where-counted, where-place, where-read, payouts-where, debits-where}
 use Rattle.entries.proofs.Naming.{name_at, names-read, front-stays, name-there}
@@ -35,79 +35,66 @@ few-calls file n = go (whole (drop n file)) refl
     go true w = omega (arith, few, front-size (drop n file) w, leb-true (3 + length_of (drop n file)) (length (drop n file)) w, length-drop n file)
     go false w = omega (arith, few, ap size (front-none (drop n file) w))
 
-module _ (file : List ℕ) (place : ℕ) (old : List ℕ) (lent : Lent file place old) (table : List ℕ) (count : ℕ)
-    (l : Listed (places_of Call (body_exprs (placed_at file place))) old 0 table count) where
-  few-listed : count ≤ length old
-  few-listed = omega (arith, l.count, few-calls file place, lent.room)
-
-  pub calls-fit : count ≤ length table
-  calls-fit = rw (l.kept, length-sets old 0 (places_of Call (body_exprs (placed_at file place)))) few-listed
-
-  pub calls-part : count ≡ length (take count table)
-  calls-part = sym (length-take-le count table calls-fit)
-
-  pub calls-all : CallsOf file place (take count table)
-  calls-all =
+module _ (file : List ℕ) (place : ℕ) (old : List ℕ) (lent : Lent file place old) where
+  pub calls-all : (body : Table ℕ) → Listed (places_of Call (body_exprs (placed_at file place))) old 0 body.items.now body.count →
+      (calls : List ℕ) → calls ≡ take body.count body.items.now → CallsOf file place calls
+  calls-all body l calls e =
       record {
         small = lent.small;
         inside = lent.inside;
-        listed = listed-front (places_of Call (body_exprs (placed_at file place))) old table count l few-listed;
+        listed = e ∙ listed-front (places_of Call (body_exprs (placed_at file place))) old body.items.now body.count l (omega (arith, l.count, few-calls file place, lent.room));
       }
 
 module _ (file : List ℕ) (place : ℕ) (calls : List ℕ) (c : CallsOf file place calls) where
   pub places-few : (test : Field → Bool) (zeros table : List ℕ) (r : ℕ) → Listed (places_where file test calls) zeros 0 table r → 3 * r ≤ length file
-  unfolding places_where
   places-few test zeros table r l =
       omega (
         arith,
         l.count,
-        length-map (filter (passes_at file test) calls) (λ k. k % 65536),
         filter-few (passes_at file test) calls,
         few-calls file place,
         ap length c.listed,
       )
 
-  -- The payouts
+  module _ (debits : Table ℕ) (l : Listed (places_where file is_debit calls) (replicate 64 0) 0 debits.items.now debits.count) where
+    pub debits-standing : Standing file place debits.count
+    debits-standing =
+        record {
+          short = c.small;
+          within = c.inside;
+          few = omega (arith, places-few is_debit (replicate 64 0) debits.items.now debits.count l, c.small);
+        }
 
-  pub payouts-read : (table : List ℕ) (r : ℕ) → Listed (places_where file is_payout calls) (replicate 65 0) 0 table r →
-      PaidOf file place (record { count = r; places = table })
-  payouts-read table r l =
-      let wide : length (replicate {A = ℕ} 65 0) ≡ 65 = length-replicate {A = ℕ} 65 0 in
-      record {
-        many = where-counted file place calls c is_payout payout-call (replicate 65 0) table r l ∙ ap length (payouts-where (placed_at file place));
-        last = λ h. where-place file place calls c is_payout payout-call (replicate 65 0) table r l 64 (omega (arith, wide)) h;
-        paid = λ h. where-read file place calls c is_payout payout-call (replicate 65 0) table r l (omega (arith, wide, h)) ∙ payouts-where (placed_at file place);
-      }
-
-  -- The backings
-
-  module _ (table : List ℕ) (r : ℕ) (l : Listed (places_where file is_debit calls) (replicate 64 0) 0 table r) where
-    pub debits-standing : Standing file place r
-    debits-standing = record { short = c.small; within = c.inside; few = omega (arith, places-few is_debit (replicate 64 0) table r l, c.small) }
-
-    module _ (last : List ℕ) (k : ℕ) (q : Listed (asset_places (place + 3) (parts (front (drop place file)))) table r last k) where
+    module _ (paid : Table ℕ) (p : Listed (places_where file is_payout calls) (replicate 65 0) 0 paid.items.now paid.count)
+        (backed : Table ℕ) (q : Lists (asset_places (place + 3) (parts (front (drop place file)))) debits backed) where
       -- each asset parameter has one place
-      parameters-counted : k ≡ r + length (asset_params (entry_of file place))
+      parameters-counted : backed.count ≡ debits.count + length (asset_params (entry_of file place))
       parameters-counted =
           q.count
-          ∙ ap (λ n. r + n) (sym (length-map (asset_places (place + 3) (parts (front (drop place file)))) (name_at file)) ∙ ap length (names-read file place))
+          ∙ ap (λ n. debits.count + n) (sym (length-map (asset_places (place + 3) (parts (front (drop place file)))) (name_at file)) ∙ ap length (names-read file place))
 
-      wide : length (replicate {A = ℕ} 64 0) ≡ 64
-      wide = length-replicate {A = ℕ} 64 0
+      wide : (n : ℕ) → length (replicate {A = ℕ} n 0) ≡ n
+      wide n = length-replicate {A = ℕ} n 0
 
-      room : k ≤ 64 → r + length (asset_params (entry_of file place)) ≤ length table
+      room : backed.count ≤ 64 → debits.count + length (asset_params (entry_of file place)) ≤ length debits.items.now
       room h =
-          let w : length table ≡ 64 = listed-long l ∙ wide in
+          let w : length debits.items.now ≡ 64 = listed-long l ∙ wide 64 in
           omega (arith, w, h, parameters-counted)
 
-      pub backings-read : BackedOf file place (record { debits = r; total = k; places = last })
-      backings-read =
+      pub entry-read : (ps : List ℕ) → ps ≡ paid.items.now → (bs : List ℕ) → bs ≡ backed.items.now →
+          Read file (record { place = place; debits = debits.count; total = backed.count; payouts = paid.count; backed = bs; paid = ps })
+      entry-read ps e bs f =
           record {
-            counted = where-counted file place calls c is_debit debit-call (replicate 64 0) table r l ∙ ap length (debits-where (placed_at file place));
+            small = c.small;
+            inside = c.inside;
+            many = where-counted file place calls c is_payout payout-call (replicate 65 0) paid.items.now paid.count p ∙ ap length (payouts-where (placed_at file place));
+            last = λ h. rw e (where-place file place calls c is_payout payout-call (replicate 65 0) paid.items.now paid.count p 64 (omega (arith, wide 65)) h);
+            paid = λ h. rw e (where-read file place calls c is_payout payout-call (replicate 65 0) paid.items.now paid.count p (omega (arith, wide 65, h)) ∙ payouts-where (placed_at file place));
+            counted = where-counted file place calls c is_debit debit-call (replicate 64 0) debits.items.now debits.count l ∙ ap length (debits-where (placed_at file place));
             all = parameters-counted;
-            listed = λ h. rw (front-stays file place table r last k q (room h))
-                (where-read file place calls c is_debit debit-call (replicate 64 0) table r l (omega (arith, wide, h, parameters-counted)) ∙ debits-where (placed_at file place));
-            named = λ h i g. name-there file place table r last k q (room h) i (omega (arith, g, parameters-counted));
+            listed = λ h. rw (f, front-stays file place debits.items.now debits.count backed.items.now backed.count q (room h))
+                (where-read file place calls c is_debit debit-call (replicate 64 0) debits.items.now debits.count l (omega (arith, wide 64, h, parameters-counted)) ∙ debits-where (placed_at file place));
+            named = λ h i g. rw f (name-there file place debits.items.now debits.count backed.items.now backed.count q (room h) i (omega (arith, g, parameters-counted)));
           }
 
 -- A table of places, as far as it was filled, by numbers

@@ -9,8 +9,6 @@ use Rattle.walking.specs.Walking.{is_payout, body_exprs, asset_params, debits, p
 use Rattle.walking.specs.Table.{placed_at, places_of}
 use Rattle.entries.specs.Calls.{body_where}
 use Rattle.entries.specs.declared.entry.Entry.{Entry}
-use Rattle.entries.specs.declared.entry.Paid.{Paid}
-use Rattle.entries.specs.declared.entry.Backed.{Backed}
 
 -- the entry that stands at a place of the file
 abbrev pub entry_of : List ℕ → ℕ → Field
@@ -32,22 +30,8 @@ pub record CallsOf (file : List ℕ) (place : ℕ) (calls : List ℕ) : Type 0 w
   pub inside : place ≤ length file
   pub listed : calls ≡ places_of Call (body_exprs (placed_at file place))
 
--- the payouts of the entry at a place, in walk order: how many; the place of the 65th; the places of all, up to 64
-pub record PaidOf (file : List ℕ) (place : ℕ) (p : Paid) : Type 0 where
-  pub many : p.count ≡ length (payouts (entry_of file place))
-  pub last : 64 < p.count → get_or p.places 64 0 ≡ (get_or (body_where is_payout (placed_at file place)) 64 nowhere).place
-  pub paid : p.count ≤ 64 → fields_at file (take p.count p.places) ≡ payouts (entry_of file place)
-
--- its backings: how many are caller debits, and how many there are; the places of all, up to 64, debits in walk order and
--- then asset parameters
-pub record BackedOf (file : List ℕ) (place : ℕ) (b : Backed) : Type 0 where
-  pub counted : b.debits ≡ length (debits (entry_of file place))
-  pub all : b.total ≡ b.debits + length (asset_params (entry_of file place))
-  pub listed : b.total ≤ 64 → fields_at file (take b.debits b.places) ≡ debits (entry_of file place)
-  pub named : b.total ≤ 64 → (i : ℕ) → i < b.total → b.debits ≤ i →
-      name_of (front (drop (get_or b.places i 0) file)) ≡ get_or (asset_params (entry_of file place)) (i - b.debits) []
-
--- an entry as it is read
+-- an entry as it is read: how many payouts, the place of the 65th, and the places of all in walk order, up to 64; how many of its
+-- backings are caller debits, and how many there are, and the places of all, up to 64, debits in walk order and then asset parameters
 pub record Read (file : List ℕ) (e : Entry) : Type 0 where
   pub small : length file ≤ 32768
   pub inside : e.place ≤ length file

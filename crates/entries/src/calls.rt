@@ -1,61 +1,66 @@
 // SPDX-License-Identifier: Apache-2.0 OR MIT
 // The payouts, the caller debits and the asset parameters of an entry, listed once by their places in the file. What has no room
 // in a table is counted all the same.
-ghost use Rattle.std.specs.Prelude.{◌+◌, drop};
-ghost use Rattle.fields.specs.Field.{front, parts};
+ghost use Rattle.std.specs.Prelude.{◌≡◌, ◌+◌, ◌^◌, ◌<◌, Bool, drop};
+ghost use Rattle.fields.specs.Field.{Field as Tree, front, parts};
+ghost use Rattle.fields.specs.Lists.{Lists};
+ghost use Rattle.fields.specs.Row.{shown};
 ghost use Rattle.fields.specs.Table.{Listed};
-ghost use Rattle.walking.specs.Walking.{is_payout, is_debit};
 ghost use Rattle.tokens.specs.Numbers.{Standing};
-ghost use Rattle.entries.specs.Calls.{places_where, asset_places};
+ghost use Rattle.entries.specs.Calls.{places_where, asset_place, asset_places};
 
 use fields::bytes::skip;
-use fields::front::{after_front, first_from, is_whole, parts_of};
-use fields::table::{note, number_at};
+use fields::front::parts_of;
+use fields::row::{Field, fields_at};
+use fields::table::{Table, empty_table};
 use tags::PARAMETER;
 use walking::parameters::is_asset_parameter;
-use walking::shape::{is_debit, is_payout};
 
-// Lists the payouts among the calls of a table, and answers how many there are.
-pub fn list_payouts(file: &[u8], calls: &[u16], table: &mut [u16]) -> usize
-    ensures { Listed (places_where file.now is_payout calls.now) table.old 0 table.new result }
+// Lists those of some calls that pass a test: by each test of fields that answers as it does.
+pub fn list_where<'t, F: Fn(&[u8]) -> bool>(
+    file: &[u8],
+    calls: &[u16],
+    test: F,
+    table: &'t mut [u16],
+) -> Table<'t, u16>
+    requires { F.IsAlwaysCallable test }
+    ensures same_reference { result.items.ghost_name ≡ table.entry.ghost_name }
+    ensures listed { (passes : Tree → Bool) → ((s : _) (r : _) → F.post test s r → r ≡ passes (front s.now))
+        → Listed (places_where file.now passes calls.now) table.old 0 result.items.now result.count }
 {
-    let mut i = 0;
-    let mut n = 0;
-    while i < calls.len() {
-        let place = number_at(calls, i);
-        n = note(is_payout(skip(file, place)), place % 65536, table, n);
-        i += 1;
+    let mut places = empty_table(table);
+    for &call in calls {
+        if test(skip(file, usize::from(call))) {
+            places.note(call);
+        }
     }
-    n
+    places
 }
 
-// Lists the caller debits in the same way.
-pub fn list_debits(file: &[u8], calls: &[u16], table: &mut [u16]) -> usize
-    ensures { Listed (places_where file.now is_debit calls.now) table.old 0 table.new result }
+// Lists a field's place where it is an asset parameter.
+#[tactic(auto, unfolding(crate::specs::Calls::asset_place))]
+fn list_parameter(field: &Field, places: &mut Table<u16>)
+    requires place { field.now.place < 65536 }
+    requires room { places.old.count + 1 < 2 ^ 64 }
+    ensures same_reference { places.new.items.ghost_name ≡ places.old.items.ghost_name }
+    ensures lists { Lists (asset_place (shown field.now)) places.old places.new }
 {
-    let mut i = 0;
-    let mut n = 0;
-    while i < calls.len() {
-        let place = number_at(calls, i);
-        n = note(is_debit(skip(file, place)), place % 65536, table, n);
-        i += 1;
+    if field.tag() != PARAMETER {
+        return;
     }
-    n
+    if !is_asset_parameter(field.part) {
+        return;
+    }
+    places.note(field.place as u16);
 }
 
-// Lists the asset parameters of the entry at a place, from n of the table on.
-pub fn list_parameters(file: &[u8], place: usize, table: &mut [u16], n: usize) -> usize
-    requires { Standing file.now place n }
-    ensures { Listed (asset_places (place + 3) (parts (front (drop place file.now)))) table.old n table.new result }
+// Lists the asset parameters of the entry at a place of the file.
+pub fn list_parameters(file: &[u8], place: usize, places: &mut Table<u16>)
+    requires { Standing file.now place places.old.count }
+    ensures same_reference { places.new.items.ghost_name ≡ places.old.items.ghost_name }
+    ensures lists { Lists (asset_places (place + 3) (parts (front (drop place file.now)))) places.old places.new }
 {
-    let row = parts_of(skip(file, place));
-    let mut t = first_from(row, PARAMETER, PARAMETER);
-    let mut m = n;
-    while is_whole(t) {
-        let at = place + 3 + (row.len() - t.len());
-        m = note(is_asset_parameter(t), at, table, m);
-        let u = first_from(after_front(t), PARAMETER, PARAMETER);
-        t = u;
+    for field in fields_at(parts_of(skip(file, place)), place + 3) {
+        list_parameter(&field, places);
     }
-    m
 }

@@ -1,7 +1,7 @@
 -- The definition computed on examples: what is equal, and what a hurried reading would take for equal.
 use Rattle.std.proofs.Common.{ℕ, ◌≡◌, refl, Bool, true, false, List, [], ◌∷◌}
 use Prim.Native.String.{String}
-use Rattle.laws.specs.Lists.{any, all, filter}
+use Rattle.laws.specs.Lists.{any, all}
 use Rattle.laws.specs.Texts.{same_bytes, bytes}
 use Rattle.tags.specs.Tag.{is_expression, composite}
 use Rattle.tags.specs.Tag as tag

@@ -1,99 +1,46 @@
--- Two texts without underscores, gone through at once: an underscore on either side changes nothing, and a pair of equal
--- bytes leaves the rest to decide.
-use Rattle.std.proofs.Common.{◌≡◌, refl, sym, ◌∙◌, Bool, true, false, cond, not, ◌&&◌, List, [], ◌∷◌, ℕ, ◌+◌, ◌<◌, eq-eqb, ne_eqb, ltb-true, ltb-false, eqb, ltb, length, get_or, drop}
-use Rattle.std.proofs.Common.{drop_of_length-le}
-use mathlib.Core.Bool.{and-true}
-use Rattle.laws.specs.Lists.{all, filter}
+-- `eq` of two iterators over bytes answers what `same_bytes` says of the texts that they give.
+use Rattle.std.proofs.Common.{ℕ, ◌≡◌, Bool, true, false, List, [], ◌∷◌, Option, Some, None, eqb}
+use Rattle.std.specs.Option.{MatchOption, IfSome}
+use Rattle.std.specs.List.{AllZip}
+use Rattle.std.specs.Iterator.{AlwaysYields, YieldsThen, ComparesItemsByEq}
+use Rattle.std.proofs.lemmas.Iterator.{YieldsList}
 use Rattle.laws.specs.Texts.{same_bytes}
-use Rattle.laws.proofs.Slices.{drop-step}
-use Rattle.laws.proofs.Texts.{bytes-symmetric}
-use Rattle.laws.proofs.Truths.{and_left, and_right}
-use Rattle.equality.specs.Equality.{is_underscore, strip}
 
-strip-underscore : (x : ℕ) (l : List ℕ) → x ≡ 0x5F → strip (x ∷ l) ≡ strip l
-unfolding strip
-strip-underscore x l e = rw (eq-eqb x 0x5F e)
+module _ {S T A : Type 0} (steps : S → Option A → S → Type 0) (others : T → Option A → T → Type 0) (v : A → ℕ) (same : A → A → Bool)
+    (agree : (x y : A) → same x y ≡ eqb (v x) (v y)) (r : Bool) where
+  abbrev Last : Option A → Option A → Type 0
+  Last o p = MatchOption o (MatchOption p (r ≡ true) (λ _. r ≡ false)) (λ x. (r ≡ false) × IfSome p (λ y. same x y ≡ false))
 
-strip-other : (x : ℕ) (l : List ℕ) → (x ≡ 0x5F → ⊥) → strip (x ∷ l) ≡ x ∷ strip l
-unfolding strip
-strip-other x l n = rw (ne_eqb x 0x5F n)
+  -- the items where the two stopped
+  at-last : (o p : Option A) (xs ys : List ℕ) (s u : S) (t w : T) → AlwaysYields steps v s xs → AlwaysYields others v t ys → steps s o u → others t p w →
+      Last o p → r ≡ same_bytes xs ys
+  unfolding same_bytes
+  at-last None p (x ∷ xs) ys s u t w e f a b h = absurd (e.0 u a)
+  at-last (Some x) p [] ys s u t w e f a b h = absurd (e x u a)
+  at-last o None xs (y ∷ ys) s u t w e f a b h = absurd (f.0 w b)
+  at-last o (Some y) xs [] s u t w e f a b h = absurd (f y w b)
+  at-last None None [] [] s u t w e f a b h = h
+  at-last None (Some y) [] (z ∷ ys) s u t w e f a b h = h
+  at-last (Some x) None (z ∷ xs) [] s u t w e f a b h = h.0
+  at-last (Some x) (Some y) (k ∷ xs) (m ∷ ys) s u t w e f a b h =
+      rw (h.0, ← (e.1 x u a).0, ← (f.1 y w b).0, ← agree x y, h.1)
 
--- nothing is left of a text exactly where it is underscores only
-strip-none : (l : List ℕ) → same_bytes [] (strip l) ≡ all is_underscore l
-unfolding strip same_bytes
-strip-none [] = refl
-strip-none (x ∷ l) = go (eqb x 0x5F) (strip-none l)
-  where
-    go : (k : Bool) → same_bytes [] (strip l) ≡ all is_underscore l →
-        same_bytes [] (cond (not k) (x ∷ strip l) (strip l)) ≡ k && all is_underscore l
-    go true e = e
-    go false e = refl
+  -- the pairs before them, which are equal
+  along : (cs bs : List A) (o p : Option A) (xs ys : List ℕ) (s u : S) (t w : T) → AlwaysYields steps v s xs → AlwaysYields others v t ys →
+      YieldsThen steps s cs o u → YieldsThen others t bs p w → AllZip (λ x y. same x y ≡ true) cs bs → Last o p → r ≡ same_bytes xs ys
+  unfolding same_bytes
+  along [] [] o p xs ys s u t w e f a b z h = at-last o p xs ys s u t w e f (rw (a.1) a.2) (rw (b.1) b.2) h
+  along [] (y ∷ bs) o p xs ys s u t w e f a b z h = absurd z
+  along (x ∷ cs) [] o p xs ys s u t w e f a b z h = absurd z
+  along (x ∷ cs) (y ∷ bs) o p [] ys s u t w e f a b z h = absurd (e x a.1.0 a.1.1)
+  along (x ∷ cs) (y ∷ bs) o p (k ∷ xs) [] s u t w e f a b z h = absurd (f y b.1.0 b.1.1)
+  along (x ∷ cs) (y ∷ bs) o p (k ∷ xs) (m ∷ ys) s u t w e f a b z h =
+      let i = e.1 x a.1.0 a.1.1 in
+      let j = f.1 y b.1.0 b.1.1 in
+      rw (← i.0, ← j.0, ← agree x y, z.0) (along cs bs o p xs ys a.1.0 u b.1.0 w i.1 j.1 (a.0, a.1.2, a.2) (b.0, b.1.2, b.2) z.1 h)
 
-strip-pair : (x : ℕ) (l m : List ℕ) → same_bytes (strip (x ∷ l)) (strip (x ∷ m)) ≡ same_bytes (strip l) (strip m)
-unfolding strip same_bytes
-strip-pair x l m = go (eqb x 0x5F)
-  where
-    go : (k : Bool) →
-        same_bytes (cond (not k) (x ∷ strip l) (strip l)) (cond (not k) (x ∷ strip m) (strip m)) ≡ same_bytes (strip l) (strip m)
-    go true = refl
-    go false = rw (eq-eqb x x refl)
-
--- where one of two texts has ended, the other may have underscores only
-left_ended : (m : List ℕ) → all is_underscore [] && all is_underscore m ≡ same_bytes (strip []) (strip m)
-unfolding strip
-left_ended m = sym (strip-none m)
-
-right-ended : (l : List ℕ) → all is_underscore l && all is_underscore [] ≡ same_bytes (strip l) (strip [])
-unfolding strip
-right-ended l = and-true (all is_underscore l) ∙ sym (strip-none l) ∙ bytes-symmetric [] (strip l)
-
--- what is left of a from i on and of b from j on decides
-pub record Stripping (a b : List ℕ) (i j : ℕ) : Type 0 where
-  pub left : same_bytes (strip (drop i a)) (strip (drop j b)) ≡ same_bytes (strip a) (strip b)
-
-pub stripping-all : (a b : List ℕ) → Stripping a b 0 0
-stripping-all a b = record { left = refl }
-
-module _ (a b : List ℕ) (i j : ℕ) where
-  -- bytes are left on both sides
-  abbrev pub both : Bool
-  both = ltb i (length a) && ltb j (length b)
-
-  pub left-inside : both ≡ true → i < length a
-  left-inside h = ltb-true i (length a) (and_left (ltb i (length a)) (ltb j (length b)) h)
-
-  pub right-inside : both ≡ true → j < length b
-  right-inside h = ltb-true j (length b) (and_right (ltb i (length a)) (ltb j (length b)) h)
-
-  module _ (v : Stripping a b i j) where
-    pub stripping-done : both ≡ false → (p q : Bool) → p ≡ all is_underscore (drop i a) → q ≡ all is_underscore (drop j b) →
-        p && q ≡ same_bytes (strip a) (strip b)
-    stripping-done h p q e f = rw (e, f, ← v.left) (go (ltb i (length a)) (ltb j (length b)) refl refl)
-      where
-        go : (x y : Bool) → ltb i (length a) ≡ x → ltb j (length b) ≡ y →
-            all is_underscore (drop i a) && all is_underscore (drop j b) ≡ same_bytes (strip (drop i a)) (strip (drop j b))
-        go false y g k = rw (drop_of_length-le a (ltb-false i (length a) g)) (left_ended (drop j b))
-        go true false g k = rw (drop_of_length-le b (ltb-false j (length b) k)) (right-ended (drop i a))
-        go true true g k = cc
-
-    module _ (h : both ≡ true) where
-      split-left : drop i a ≡ get_or a i 0 ∷ drop (i + 1) a
-      split-left = drop-step a i (left-inside h)
-
-      split-right : drop j b ≡ get_or b j 0 ∷ drop (j + 1) b
-      split-right = drop-step b j (right-inside h)
-
-      pub stripping-pair : get_or a i 0 ≡ get_or b j 0 → Stripping a b (i + 1) (j + 1)
-      stripping-pair e = record { left = sym (strip-pair (get_or b j 0) (drop (i + 1) a) (drop (j + 1) b)) ∙ rw (split-left, split-right, e) at v.left }
-
-      pub stripping-left : get_or a i 0 ≡ 0x5F → Stripping a b (i + 1) j
-      stripping-left e = record { left = rw (split-left, strip-underscore (get_or a i 0) (drop (i + 1) a) e) at v.left }
-
-      pub stripping-right : get_or b j 0 ≡ 0x5F → Stripping a b i (j + 1)
-      stripping-right e = record { left = rw (split-right, strip-underscore (get_or b j 0) (drop (j + 1) b) e) at v.left }
-
-      pub stripping-differ : (get_or a i 0 ≡ get_or b j 0 → ⊥) → (get_or a i 0 ≡ 0x5F → ⊥) → (get_or b j 0 ≡ 0x5F → ⊥) →
-          false ≡ same_bytes (strip a) (strip b)
-      unfolding same_bytes
-      stripping-differ n p q =
-          rw (split-left, split-right, strip-other (get_or a i 0) (drop (i + 1) a) p, strip-other (get_or b j 0) (drop (j + 1) b) q, ne_eqb _ _ n) at v.left
+pub same-items : {S T A : Type 0} {steps : S → Option A → S → Type 0} {others : T → Option A → T → Type 0} {v : A → ℕ} {s : S} {same : A → A → Bool} {xs ys : List ℕ}
+    (t : T) (r : Bool) → ComparesItemsByEq steps (λ x y. y ≡ x) others s t same r →
+    YieldsList steps v s xs → YieldsList others v t ys → ((x y : A) → same x y ≡ eqb (v x) (v y)) → r ≡ same_bytes xs ys
+same-items {steps = steps} {others = others} {v = v} {s = s} {same = same} {xs = xs} {ys = ys} t r d e f agree =
+    along steps others v same agree r d.1 d.2 d.3 d.4 xs ys s d.5 t d.6 e.runs f.runs d.8 (rw (← d.7) d.9) d.10 d.11

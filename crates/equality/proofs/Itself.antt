@@ -2,7 +2,6 @@
 use Rattle.std.proofs.Common.{ℕ, ◌<◌, ◌≡◌, refl, ◌∙◌, Bool, true, false, not, ◌&&◌, ◌||◌, List, [], arith, leb-true, leb-false, ne_eqb, eq-eqb, T, leb, eqb, leb→le}
 use mathlib.Core.Bool.{beq, and-true, and-false, or-true}
 use borrow.Author.Tests.{lt-leb}
-use Rattle.laws.specs.Lists.{filter}
 use Rattle.laws.specs.Texts.{same_bytes}
 use Rattle.laws.proofs.Numbers.{below}
 use Rattle.laws.proofs.Texts.{bytes_same}

@@ -20,7 +20,7 @@ use equality::expr_eq;
 use fields::bytes::same_bytes;
 use fundings::facts::nothing_known;
 use fundings::token::ledger_funding_token;
-use payout_reserve::{ReserveAnswer, payout_reserve};
+use payout_reserve::payout_reserve;
 use reserve_tokens::reserve::reserve_token;
 use tokens::token::admitted_inflow_token;
 use walking::walk::MOST_FIELDS;
@@ -95,19 +95,19 @@ pub extern "C" fn zevdrak_reserve_bounding_payout(
     ensures second { second.new ≡ reserve_second (file_reserve file.now entry payout) }
 {
     match payout_reserve(file, entry, payout) {
-        ReserveAnswer::Covered { index } => {
+        Ok(Some(index)) => {
             *first = index;
             *second = 0;
             0
         }
-        ReserveAnswer::Uncovered => {
+        Ok(None) => {
             *first = NO_FIELD;
             *second = 0;
             1
         }
-        ReserveAnswer::Refused { number, place } => {
-            *first = number as usize;
-            *second = place;
+        Err(refusal) => {
+            *first = usize::from(u8::from(refusal.question));
+            *second = refusal.place;
             2
         }
     }

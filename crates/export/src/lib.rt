@@ -17,10 +17,9 @@ pub mod compare;
 
 use contract::records::write_records;
 use listing::lines::listing;
-use questions::check::Answer;
 use questions::file::check_file;
 use verdict::file::file_verdict;
-use verdict::numbers::numbers_of;
+use verdict::numbers::Numbers;
 
 // The verdict on an entry of a file, counted from 0: 0 accepted, 1 rejected, 2 refused, with two numbers beside (Verdict in the
 // specs of crates/claim). Where it is accepted its covers are written in front of the lent ones. Demand 2 is `answer`, `first`,
@@ -40,10 +39,10 @@ pub extern "C" fn zevdrak_verdict(
     ensures covers { covers.new ≡ written (verdict file.now entry (length covers.old)) covers.old }
     ensures backed { Demand3 file.now entry covers.old result first.new second.new covers.new }
 {
-    let numbers = numbers_of(file_verdict(file, entry, covers));
+    let numbers = Numbers::from(file_verdict(file, entry, covers));
     *first = numbers.first;
     *second = numbers.second;
-    numbers.outcome
+    u8::from(numbers.outcome)
 }
 
 // The verdicts on all entries of a file: a record of bytes for each (Records in the specs of crates/contract), written into the
@@ -61,7 +60,7 @@ pub extern "C" fn zevdrak_contract(file: &[u8], records: &mut [u8], length: &mut
 {
     let recorded = write_records(file, records);
     *length = recorded.end;
-    recorded.outcome
+    u8::from(recorded.outcome)
 }
 
 // The listing of a file, written into the front of out as far as it has room; the answer is how many bytes of out it takes.
@@ -78,13 +77,10 @@ pub extern "C" fn zevdrak_check_file(file: &[u8], place: &mut usize) -> u8
     ensures { (result ≡ question_in (ask_file file.now)) × (place.new ≡ place_in (ask_file file.now) place.old) }
 {
     match check_file(file) {
-        Answer::Passes => 0,
-        Answer::Refused {
-            number,
-            place: found,
-        } => {
-            *place = found;
-            number
+        Ok(()) => 0,
+        Err(refusal) => {
+            *place = refusal.place;
+            u8::from(refusal.question)
         }
     }
 }

@@ -1,8 +1,8 @@
 -- Going along a row: a step gives the field in front, and what is left behind it is the rest of the row.
-use Rattle.std.proofs.Common.{ℕ, ◌+◌, ◌≡◌, refl, sym, ap, ◌∙◌, Bool, true, false, List, [], ◌∷◌, Option, Some, None, length}
+use Rattle.std.proofs.Common.{ℕ, ◌+◌, ◌≡◌, ap, ◌∙◌, true, false, List, [], ◌∷◌, length}
 use Rattle.std.proofs.lemmas.Iterator.{YieldsList}
 use Rattle.std.proofs.lemmas.Iterator.Consumers.{YieldsList-from_shown}
-use Rattle.fields.specs.Field.{Field, Placed, fields, placed, row, nth, whole, after, front, length_of, size}
+use Rattle.fields.specs.Field.{fields, placed, row, whole, after, front, length_of}
 use Rattle.fields.specs.Row.{shown, left, Step, Steps}
 use Rattle.fields.specs.declared.field.Fields.{Fields}
 use Rattle.fields.specs.declared.field.Field.{Field as Found}

@@ -2,14 +2,13 @@ pub mod Reading
 pub mod Places
 pub mod Parts
 pub mod Rows
-pub mod Tails
 pub mod Inside
 pub mod Prefix
 pub mod Encoding
 pub mod Tables
-pub mod Listing
 pub mod AtPlaces
-pub mod Choosing
 pub mod Writing
 pub mod Examples
 pub mod InARow
+pub mod EndOf
+pub mod Gathering

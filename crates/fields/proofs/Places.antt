@@ -1,7 +1,6 @@
 -- Sizes and places: the tree of s tells where each of its fields stands in s.
-use Rattle.std.proofs.Common.{ℕ, zero, suc, ◌+◌, ◌-◌, ◌≤◌, ◌<◌, ◌≡◌, refl, ◌∙◌, Bool, true, false, cond, List, [], ◌∷◌, arith, leb-true, length, drop, eqb, eqb-true, sym, length-drop, length-take, drop-drop}
+use Rattle.std.proofs.Common.{ℕ, zero, suc, ◌+◌, ◌-◌, ◌≤◌, ◌<◌, ◌≡◌, refl, ◌∙◌, Bool, true, false, cond, List, [], ◌∷◌, arith, leb-true, length, take, drop, eqb, eqb-true, sym, length-drop, length-take, drop-drop}
 use lib.Seq.{drop-nil, drop-length}
-use Rattle.laws.specs.Lists.{filter}
 use Rattle.laws.proofs.Lists.{no-elements}
 use Rattle.tags.specs.Tag.{composite, between}
 use Rattle.fields.specs.Field.{Field, Fields, fields, tag_of, length_of, whole, content, after, front, nth, tag, parts, size, sizes, place_of, row, fields_from}
@@ -102,3 +101,9 @@ is-zero n b e h = eqb-true n 0 (sym e ∙ h)
 
 pub reads-nth : (s t : List ℕ) (n : ℕ) → t ≡ drop (place_of n (fields s)) s → front t ≡ nth n (fields s)
 reads-nth s t n e = rw e (nth-place n s)
+
+-- the parts of a field are shorter than what it stands in the front of, by its head at least
+pub parts-shorter : (s : List ℕ) → whole s ≡ true → (x : List ℕ) → x ≡ take (sizes (parts (front s))) (drop 3 s) → length x + 3 ≤ length s
+parts-shorter s w x f =
+    let long : 3 + length_of s ≤ length s = leb-true _ _ w in
+    rw (f, length-take, length-drop) (omega arith)

@@ -2,7 +2,6 @@
 use Rattle.std.proofs.Common.{ℕ, ◌+◌, ◌≤◌, ◌≡◌, refl, sym, ap, ap₂, ◌∙◌, true, false, cond, List, [], ◌∷◌, ◌++◌, arith, leb-true, le-leb, length, take, drop, length-take, drop_of_length-le}
 use Rattle.std.proofs.Common.{take-add, get_or-take}
 use lib.Seq.{take-append_seam, drop-append-le}
-use Rattle.laws.specs.Lists.{filter}
 use Rattle.laws.proofs.Lists.{filter-append}
 use Rattle.tags.specs.Tag.{between}
 use Rattle.fields.specs.Field.{Fields, fields, length_of, whole, after, front, tag, row, fields_from}

@@ -5,11 +5,11 @@ use lib.Seq.{set_out, sets-eq, length-sets}
 use Rattle.laws.proofs.Tables.{sets-append}
 use Rattle.fields.specs.Table.{Listed}
 
-module _ (t : List ℕ) (n : ℕ) where
+module _ {X : Type 0} (t : List X) (n : ℕ) where
   pub listed-none : Listed [] t n t n
   listed-none = record { count = omega arith; kept = refl }
 
-  module _ (hit : Bool) (k : ℕ) where
+  module _ (hit : Bool) (k : X) where
     pub missed : not hit ≡ true → Listed (cond hit (k ∷ []) []) t n t n
     missed e = rw (not-true hit e) listed-none
 
@@ -20,7 +20,7 @@ module _ (t : List ℕ) (n : ℕ) where
       pub no_room : length t ≤ n → Listed (cond hit (k ∷ []) []) t n t (n + 1)
       no_room h = rw (not-false hit e) (record { count = refl; kept = sym (set_out t n k h) })
 
-pub listed_then : (ks js t u v : List ℕ) (n m r : ℕ) → Listed ks t n u m → Listed js u m v r → Listed (ks ++ js) t n v r
+pub listed_then : {X : Type 0} (ks js t u v : List X) (n m r : ℕ) → Listed ks t n u m → Listed js u m v r → Listed (ks ++ js) t n v r
 listed_then ks js t u v n m r p q =
     record {
       count = rw length-append (omega (arith, p.count, q.count));
@@ -28,11 +28,11 @@ listed_then ks js t u v n m r p q =
     }
 
 -- a table stays as long as it was
-pub listed-long : {ks t u : List ℕ} {n r : ℕ} → Listed ks t n u r → length u ≡ length t
-listed-long {ks} {t} {u} {n} p = rw (p.kept, length-sets t n ks)
+pub listed-long : {X : Type 0} {ks t u : List X} {n r : ℕ} → Listed ks t n u r → length u ≡ length t
+listed-long {ks = ks} {t = t} {u = u} {n = n} p = rw (p.kept, length-sets t n ks)
 
 -- a table that has room for all holds them in front, and behind them what it held before
-module _ (ks t u : List ℕ) (r : ℕ) (p : Listed ks t 0 u r) (h : r ≤ length t) where
+module _ {X : Type 0} (ks t u : List X) (r : ℕ) (p : Listed ks t 0 u r) (h : r ≤ length t) where
   pub listed-all : u ≡ ks ++ drop r t
   listed-all = p.kept ∙ sets-eq ks t 0 (omega (arith, p.count)) ∙ rw p.count
 

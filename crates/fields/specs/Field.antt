@@ -112,20 +112,6 @@ row (next f fs) = f ∷ row fs
 unfoldable pub fields_from : (low high : ℕ) → Fields → List Field
 fields_from low high fs = filter (λ f. between low high (tag f)) (row fs)
 
--- how many bytes stand before the first of them; all, where there is none
-unfoldable pub place_from : (low high : ℕ) → Fields → ℕ
-place_from low high (end r) = length r
-place_from low high (next f fs) = cond (between low high (tag f)) 0 (size f + place_from low high fs)
-
--- s from its first field on whose tag is from `low` to `high`
-abbrev pub from : (low high : ℕ) → List ℕ → List ℕ
-from low high s = drop (place_from low high (fields s)) s
-
--- s from its n-th on: each is the first behind the one before
-unfoldable pub from_nth : (low high n : ℕ) → List ℕ → List ℕ
-from_nth low high zero s = from low high s
-from_nth low high (suc n) s = from low high (after (from_nth low high n s))
-
 -- a field with the offset of its tag byte
 pub record Placed : Type 0 where
   pub place : ℕ

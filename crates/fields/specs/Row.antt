@@ -1,5 +1,5 @@
 -- The fields of a part of the file in a row, as the code goes through them: each with its place, as the part that starts with it.
-use Rattle.std.specs.Prelude.{ℕ, ◌+◌, ◌≡◌, true, false, List, Option, Some, None}
+use Rattle.std.specs.Prelude.{◌+◌, ◌≡◌, true, false, List, Option, Some, None}
 use Rattle.fields.specs.Field.{Placed, fields, placed, length_of, whole, after, front}
 use Rattle.fields.specs.declared.field.Fields.{Fields}
 use Rattle.fields.specs.declared.field.Field.{Field as Found}

@@ -3,8 +3,8 @@ use Rattle.std.specs.Prelude.{ℕ, ◌+◌, ◌*◌, ◌^◌, ◌<◌, ◌≡◌
 use Rattle.std.proofs.lemmas.List.Edits.{sets}
 use Rattle.fields.specs.Field.{Field, front}
 
--- numbers were written into a table from index n on, as far as it has room, and the next would go to r
-pub record Listed (ks table : List ℕ) (n : ℕ) (last : List ℕ) (r : ℕ) : Type 0 where
+-- items were written into a table from index n on, as far as it has room, and the next would go to r
+pub record Listed {T : Type 0} (ks table : List T) (n : ℕ) (last : List T) (r : ℕ) : Type 0 where
   pub count : r ≡ n + length ks
   pub kept : last ≡ sets table n ks
 

@@ -9,15 +9,15 @@ pub fn byte_at(s: &[u8], i: usize) -> u8
     s.get(i).copied().unwrap_or(0)
 }
 
-// s without its first n bytes.
-pub fn skip(s: &[u8], n: usize) -> &[u8]
+// s without its first n elements.
+pub fn skip<T>(s: &[T], n: usize) -> &[T]
     ensures { result.now ≡ drop n s.now }
 {
     s.get(n..).unwrap_or_default()
 }
 
-// The first n bytes of s, or all where there are fewer.
-pub fn keep(s: &[u8], n: usize) -> &[u8]
+// The first n elements of s, or all where there are fewer.
+pub fn keep<T>(s: &[T], n: usize) -> &[T]
     ensures { result.now ≡ take n s.now }
 {
     s.get(..n).unwrap_or(s)

@@ -1,6 +1,6 @@
 // The field at the front of a part of the file. An expression is handed on as the part of the file that starts with it.
 ghost use Rattle.std.specs.Prelude.{◌≡◌, ◌+◌, ◌*◌, ◌<◌, ◌-◌, take, drop, length};
-ghost use Rattle.fields.specs.Field.{tag_of, length_of, whole, content, after, fields, front, tag, text, parts, part, nth, sizes, place_of, from, from_nth};
+ghost use Rattle.fields.specs.Field.{tag_of, length_of, whole, content, after, fields, front, tag, text, parts, part, nth, sizes, place_of};
 
 use super::bytes::{byte_at, keep, skip};
 use tags::is_composite;
@@ -103,38 +103,4 @@ pub fn part_of(s: &[u8], n: usize) -> &[u8]
     ensures shows { result.now ≡ drop (place_of n (parts (front s.now))) (take (sizes (parts (front s.now))) (drop 3 s.now)) }
 {
     nth_field(parts_of(s), n)
-}
-
-// s from its first field on whose tag is from low to high; no bytes where there is none.
-pub fn first_from(s: &[u8], low: u8, high: u8) -> &[u8]
-    ensures { result.now ≡ from low high s.now }
-{
-    let mut t = s;
-    while is_whole(t) {
-        let tag = front_tag(t);
-        if (low <= tag) & (tag <= high) {
-            return t;
-        }
-        let u = after_front(t);
-        t = u;
-    }
-    skip(t, t.len())
-}
-
-// s from its n-th field on whose tag is from low to high; no bytes where there is none. It stands at the length of s less
-// that of the answer.
-pub fn nth_from(s: &[u8], low: u8, high: u8, n: usize) -> &[u8]
-    ensures { result.now ≡ from_nth low high n s.now }
-{
-    let mut t = first_from(s, low, high);
-    let mut passed = 0;
-    while passed < n {
-        if t.len() == 0 {
-            return t;
-        }
-        let u = first_from(after_front(t), low, high);
-        t = u;
-        passed += 1;
-    }
-    t
 }

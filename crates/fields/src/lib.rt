@@ -2,8 +2,9 @@
 #![tactic(auto)]
 
 pub mod bytes;
-pub mod front;
 pub mod field;
+pub mod front;
+pub mod named;
 pub mod number;
 pub mod row;
 pub mod table;

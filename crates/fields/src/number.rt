@@ -19,9 +19,8 @@ pub fn text_number(s: &[u8], base: usize) -> usize
 
 // A number of two bytes: the upper half of the number, in one base, of the first bytes of a text. The others are left to the
 // comparison of those texts whose numbers are equal, so that a long text takes no longer than a name.
-pub fn short_number(s: &[u8]) -> usize
-    ensures same { result ≡ short_number s.now }
-    ensures small { result < 65536 }
+pub fn short_number(s: &[u8]) -> u16
+    ensures { result ≡ short_number s.now }
 {
-    text_number(keep(s, 32), 1640531527) / 65536
+    (text_number(keep(s, 32), 1640531527) / 65536) as u16
 }

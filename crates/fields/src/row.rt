@@ -1,11 +1,10 @@
 // The fields of a part of the file in a row, front to back.
 ghost use Rattle.std.specs.Prelude.{◌≡◌, ◌+◌, ◌^◌, ◌<◌, length, take, drop};
 ghost use Rattle.std.specs.Iterator.{item_count};
-ghost use Rattle.fields.specs.Field.{front, tag, text, placed_parts};
+ghost use Rattle.fields.specs.Field.{fields, front, tag, text, parts, sizes, placed_parts};
 ghost use Rattle.fields.specs.Row.{shown, left, Steps};
 
 pub use super::field::{Field, Fields};
-
 use super::front::{after_front, front_tag, is_whole, length_of, parts_of, text_of};
 
 // The fields of s, which stands at a place.
@@ -59,7 +58,10 @@ impl<'a> Field<'a> {
 
     // Its parts, which stand behind its three-byte head: none where it has a text.
     pub fn parts(&self) -> Fields<'a>
-        ensures { left result ≡ placed_parts (shown self.now) }
+        ensures row { left result ≡ placed_parts (shown self.now) }
+        ensures place { result.place ≡ self.now.place + 3 }
+        ensures reads { fields result.rest.now ≡ parts (front self.now.part.now) }
+        ensures shows { result.rest.now ≡ take (sizes (parts (front self.now.part.now))) (drop 3 self.now.part.now) }
     {
         fields_at(parts_of(self.part), self.place + 3)
     }

@@ -1,37 +1,46 @@
-// A table of 16-bit numbers that a caller lends.
-ghost use Rattle.std.specs.Prelude.{◌≡◌, cond, [], ◌∷◌, ◌+◌, ◌^◌, ◌<◌, get_or};
-ghost use Rattle.fields.specs.Table.{Listed};
+// A table that a caller lends, and how many items are listed in it.
+ghost use Rattle.std.specs.Prelude.{◌≡◌, [], ◌∷◌, ◌+◌, ◌^◌, ◌<◌, take};
+ghost use Rattle.fields.specs.Lists.{Lists};
 
-// Writes a number at n of the table, where hit says so and there is room, and answers where the next one goes. What has no
-// room is counted all the same.
-pub fn note(hit: bool, number: usize, table: &mut [u16], n: usize) -> usize
-    requires { (number < 65536) × (n + 1 < 2 ^ 64) }
-    ensures { Listed (cond hit (number ∷ []) []) table.old n table.new result }
-{
-    if !hit {
-        return n;
-    }
-    if n < table.len() {
-        table[n] = number as u16;
-        return n + 1;
-    }
-    n + 1
+use super::bytes::keep;
+
+#[derive(Drop)]
+pub struct Table<'a, T> {
+    pub items: &'a mut [T],
+    pub count: usize,
 }
 
-// A number of a table, as one that can be noted in another: it has two bytes.
-pub fn wide(number: u16) -> usize
-    ensures same { result ≡ number }
-    ensures small { result < 65536 }
+// A lent table in which nothing is listed yet.
+pub fn empty_table<T>(items: &mut [T]) -> Table<T>
+    ensures same_reference { result.items.ghost_name ≡ items.entry.ghost_name }
+    ensures items { result.items.now ≡ items.old }
+    ensures none { result.count ≡ 0 }
 {
-    number as usize
+    Table {
+        items: items,
+        count: 0,
+    }
 }
 
-// The number at i of a table; 0 past its end.
-pub fn number_at(table: &[u16], i: usize) -> usize
-    ensures { result ≡ get_or table.now i 0 }
-{
-    if i < table.len() {
-        return wide(table[i]);
+impl<'a, T: Copy> Table<'a, T> {
+    // Lists one more. What has no room is counted all the same.
+    pub fn note(&mut self, item: T)
+        requires { self.old.count + 1 < 2 ^ 64 }
+        ensures same_reference { self.new.items.ghost_name ≡ self.old.items.ghost_name }
+        ensures lists { Lists (item ∷ []) self.old self.new }
+    {
+        let at = self.count;
+        let items = &mut *self.items;
+        if at < items.len() {
+            items[at] = item;
+        }
+        self.count = at + 1;
     }
-    0
+
+    // Those that found room.
+    pub fn listed(&self) -> &[T]
+        ensures { result.now ≡ take self.now.count self.now.items.now }
+    {
+        keep(self.items, self.count)
+    }
 }

@@ -1,13 +1,13 @@
 -- A table that has a number for each three bytes of the file has room for all calls of an entry, and only a call funds a map.
-use Rattle.std.proofs.Common.{ℕ, suc, ◌+◌, ◌*◌, ◌≤◌, ◌<◌, ◌≡◌, refl, sym, ap, ◌∙◌, Bool, true, false, cond, not, ◌&&◌, ◌||◌, List, [], ◌∷◌, arith, leb-true}
-use Rattle.std.proofs.Common.{ltb-true, ltb-false, ltb, eqb, length, get_or, take, drop, length-drop, drop_of_length-le, length-take-le}
+use Rattle.std.proofs.Common.{ℕ, zero, suc, ◌+◌, ◌*◌, ◌≤◌, ◌<◌, ◌≡◌, refl, sym, ap, ◌∙◌, Bool, true, false, not, ◌&&◌, List, [], ◌∷◌, None, Some, arith, leb-true}
+use Rattle.std.proofs.Common.{ltb-true, ltb-false, ltb, eqb, length, get_or, take, drop, length-drop, drop_of_length-le}
 use borrow.Author.Tests.{not-true, not-false}
 use lib.Seq.{length-sets}
-use Rattle.laws.specs.Lists.{any, position}
+use Rattle.std.specs.List.{position}
+use Rattle.std.proofs.lemmas.List.Quantifiers.{position-Some}
 use Rattle.laws.specs.Texts.{same_bytes}
 use Rattle.laws.proofs.Lists.{any-first, Every}
 use Rattle.laws.proofs.Truths.{chosen, and_left}
-use Rattle.laws.proofs.Slices.{drop-step}
 use Rattle.tags.specs.Tag.{Call, Member}
 use Rattle.fields.specs.Table.{Listed, fields_at}
 use Rattle.fields.specs.Field.{Field, Fields, length_of, whole, front, tag, part, parts, nothing, nth, placed, size, sizes}
@@ -22,6 +22,7 @@ use Rattle.walking.proofs.Calls.{is_call}
 use Rattle.walking.proofs.Callers.{body-read, body-few}
 use Rattle.tokens.specs.Tokens.{is_credit, is_inflow, is_funding}
 use Rattle.fundings.specs.Fundings.{is_funding_call, funded_by}
+use Rattle.fundings.proofs.Maps.{none-passes}
 
 -- The table of an entry's calls
 
@@ -47,9 +48,6 @@ module _ (file : List ℕ) (n : ℕ) where
     module _ (m : count ≤ length zeros) where
       pub calls-room : count ≤ length calls
       calls-room = rw (l.kept, length-sets) m
-
-      pub calls_count : count ≡ length (take count calls)
-      calls_count = sym (length-take-le count calls calls-room)
 
       pub calls-front : take count calls ≡ places_of Call (body_exprs (placed_at file n))
       calls-front = listed-front (places_of Call (body_exprs (placed_at file n))) zeros calls count l m
@@ -135,42 +133,29 @@ unfolding funded_by fields_at
 calls-fund file n h m =
     rw (body-read file n Call h) (any-first (is_funding m (front (drop n file))) is_call (funding-call m (front (drop n file))) (exprs (front (drop n file))))
 
--- The first that funds some map: those before i do not
+-- what none before the i-th funds, those from it on do
+pub awaited : (file : List ℕ) (e : Field) (calls : List ℕ) (i : ℕ) → i ≤ length calls →
+    ((k : ℕ) → k < i → is_funding_call e (front (drop (get_or calls k 0) file)) ≡ false) → (m : List ℕ) →
+    funded_by e (fields_at file (drop i calls)) m ≡ funded_by e (fields_at file calls) m
+unfolding funded_by fields_at
+awaited file e calls zero h n m = refl
+awaited file e [] (suc i) h n m = refl
+awaited file e (k ∷ ks) (suc i) h n m =
+    awaited file e ks i (omega (arith, h)) (λ j l. n (suc j) (omega (arith, l))) m
+    ∙ rw (funding-either m e (front (drop k file)), n 0 (omega arith))
 
-pub record Awaiting (p : Field → Bool) (s calls : List ℕ) (i : ℕ) : Type 0 where
-  pub within : i ≤ length calls
-  pub left : i + position p (fields_at s (drop i calls)) ≡ position p (fields_at s calls)
+-- so where none funds some map, none funds this
+pub none-funds : (file : List ℕ) (e : Field) (calls : List ℕ) →
+    position (λ call. is_funding_call e (front (drop call file))) calls ≡ None → (m : List ℕ) → funded_by e (fields_at file calls) m ≡ false
+unfolding funded_by fields_at
+none-funds file e calls h m =
+    sym (awaited file e calls (length calls) (omega arith) (λ k l. none-passes _ calls h k 0 l) m)
+    ∙ rw (drop_of_length-le calls {i = length calls} (omega arith))
 
-module _ (p : Field → Bool) (s calls : List ℕ) where
-  pub awaiting-all : Awaiting p s calls 0
-  awaiting-all = record { within = omega arith; left = omega arith }
-
-  module _ (i : ℕ) (v : Awaiting p s calls i) where
-    pub awaiting-none : length calls ≤ i → i ≡ position p (fields_at s calls)
-    unfolding position fields_at
-    awaiting-none h = omega (arith, rw (drop_of_length-le calls {i = i} h) at v.left)
-
-    module _ (h : i < length calls) (n : ℕ) (k : n ≡ get_or calls i 0) (x : List ℕ) (e : x ≡ drop n s) (b : Bool) (f : b ≡ p (front x)) where
-      ahead : i + cond b 0 (suc (position p (fields_at s (drop (i + 1) calls)))) ≡ position p (fields_at s calls)
-      unfolding position fields_at
-      ahead = rw (drop-step calls i h, ← k, ← e, ← f) at v.left
-
-      pub awaiting-found : b ≡ true → i ≡ position p (fields_at s calls)
-      awaiting-found g = omega (arith, rw g at ahead)
-
-      pub awaiting-on : b ≡ false → Awaiting p s calls (i + 1)
-      awaiting-on g = record { within = omega arith; left = omega (arith, rw g at ahead) }
-
--- and what none before it funds, those from it on do
-pub awaited : (file : List ℕ) (e : Field) (calls : List ℕ) (m : List ℕ) →
-    funded_by e (fields_at file (drop (position (is_funding_call e) (fields_at file calls)) calls)) m ≡ funded_by e (fields_at file calls) m
-unfolding position funded_by fields_at
-awaited file e [] m = refl
-awaited file e (k ∷ ks) m = go (is_funding_call e (front (drop k file))) refl (awaited file e ks m)
-  where
-    go : (b : Bool) → is_funding_call e (front (drop k file)) ≡ b →
-        funded_by e (fields_at file (drop (position (is_funding_call e) (fields_at file ks)) ks)) m ≡ funded_by e (fields_at file ks) m →
-        any (is_funding m e) (fields_at file (drop (cond b 0 (suc (position (is_funding_call e) (fields_at file ks)))) (k ∷ ks)))
-        ≡ is_funding m e (front (drop k file)) || any (is_funding m e) (fields_at file ks)
-    go true h r = refl
-    go false h r = r ∙ rw (funding-either m e (front (drop k file)), h)
+-- and where one does, those from the first on do what all do
+pub first-on : (file : List ℕ) (e : Field) (calls : List ℕ) (i : ℕ) →
+    position (λ call. is_funding_call e (front (drop call file))) calls ≡ Some i → (m : List ℕ) →
+    funded_by e (fields_at file (drop i calls)) m ≡ funded_by e (fields_at file calls) m
+first-on file e calls i h m =
+    let p = position-Some (λ call. is_funding_call e (front (drop call file))) calls i 0 h in
+    awaited file e calls i (omega (arith, p.0)) p.2 m

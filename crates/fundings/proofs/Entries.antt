@@ -1,41 +1,36 @@
--- The entries of a file, one after the other: the set that each map has so far, with what those ahead name that fund it, is the set of
--- all.
-use Rattle.std.proofs.Common.{ℕ, ◌-◌, ◌≤◌, ◌≡◌, refl, ◌∙◌, true, false, List, arith, length, take}
+-- The fields of a file, one after the other: the set that each map has so far, with what the entries ahead name that fund it, is the set
+-- of all.
+use Rattle.std.proofs.Common.{ℕ, ◌≤◌, ◌≡◌, false, List, [], length}
 use Rattle.tags.specs.Tag.{Entry}
-use Rattle.fields.specs.Field.{whole, after, from}
-use Rattle.fields.proofs.Rows.{from-shorter, from_less}
+use Rattle.fields.specs.Field.{whole, tag, front}
+use Rattle.fields.specs.Row.{Step}
+use Rattle.fields.specs.declared.field.Fields.{Fields}
+use Rattle.fields.specs.declared.field.Field.{Field as Found}
 use Rattle.fundings.specs.FundingTokens.{funds}
-use Rattle.fundings.specs.Fundings.{funded_by, number_of_map, Mapped, EntryJoins, EachMap}
-use Rattle.fundings.proofs.Funders.{Ledger, ledger-all, ledger-on, ledger-done}
+use Rattle.fundings.specs.declared.ledger.Funding.{Funding}
+use Rattle.fundings.specs.Fundings.{funded_by, number_of_map, EntryJoins, EachMap}
+use Rattle.tokens.specs.Numbers.{Standing}
+use Rattle.fundings.proofs.Funders.{Ledger, ledger-all, ledger-past, ledger-on, ledger-done, ledger-standing}
 
-pub record Entries (file table last t : List ℕ) (n : ℕ) : Type 0 where
-  pub wide : length last ≡ length table
-  pub mapped : Mapped last n
-  pub within : length t ≤ length file
-  pub each : n ≤ length table → (m : List ℕ) → Ledger file m (number_of_map file m (take n last)) t
+abbrev pub Entries : (file : List ℕ) → Fields → List Funding → Type 0
+Entries file rest maps = (m : List ℕ) → Ledger file m (number_of_map file m maps) rest
 
-pub entries-all : (file table t : List ℕ) → length table ≤ 65536 → t ≡ from Entry Entry file → Entries file table table t 0
+pub entries-all : (file : List ℕ) (it all : Fields) → all ≡ it → it.rest.now ≡ file → it.place ≡ 0 → (maps : List Funding) → maps ≡ [] → Entries file all maps
 unfolding number_of_map
-entries-all file table t h e = record {
-  wide = refl;
-  mapped = record { wide = h; threes = refl; few = omega arith };
-  within = rw e (from-shorter Entry Entry file);
-  each = λ o m. ledger-all file m t e;
-}
+entries-all file it all y r z maps e m = rw e (ledger-all file m it all y r z)
 
-module _ (file table last t : List ℕ) (n : ℕ) (i : Entries file table last t n) where
-  pub entries-done : whole t ≡ false → EachMap file last n
-  entries-done w h m = ledger-done file m (number_of_map file m (take n last)) t (i.each (rw (← i.wide) h) m) w
+module _ (file : List ℕ) (rest : Fields) (maps : List Funding) (i : Entries file rest maps) where
+  pub entries-done : whole rest.rest.now ≡ false → EachMap file maps
+  entries-done w m = ledger-done file m (number_of_map file m maps) rest (i m) w
 
-  pub entries-on : whole t ≡ true → (u : List ℕ) (k : ℕ) →
-      EntryJoins file (length file - length t) last n u k → (y j : List ℕ) → y ≡ after t → j ≡ from Entry Entry y → Entries file table u j k
-  unfolding funded_by funds
-  entries-on w u k p y j a b = record {
-    wide = p.long ∙ i.wide;
-    mapped = p.mapped;
-    within = omega (arith, i.within, from_less Entry Entry t y j w a b);
-    each = λ h m.
-        let o : k ≤ length last = rw (i.wide) h in
-        ledger-on file m (number_of_map file m (take n last)) t (i.each (rw (← i.wide) (p.before o)) m) w
-        (number_of_map file m (take k u)) (p.each o m) y j a b;
-  }
+  module _ (f : Found) (behind : Fields) (h : Step rest f behind) where
+    pub entries-standing : length file ≤ 32768 → Standing file f.place 0
+    entries-standing s = ledger-standing file [] (number_of_map file [] maps) rest (i []) f behind h s
+
+    module _ (g : ℕ) (e : g ≡ tag (front f.part.now)) where
+      pub entries-past : (g ≡ Entry → ⊥) → Entries file behind maps
+      entries-past n m = ledger-past file m (number_of_map file m maps) rest (i m) f behind h g e n
+
+      pub entries-on : g ≡ Entry → (u : List Funding) → EntryJoins file f.place maps u → Entries file behind u
+      unfolding funded_by funds
+      entries-on q u p m = ledger-on file m (number_of_map file m maps) rest (i m) f behind h g e q (number_of_map file m u) (p m)

@@ -1,8 +1,8 @@
 -- The definitions computed on examples: what funds a map, and when there is one token.
-use Rattle.std.proofs.Common.{ℕ, ◌≡◌, refl, List, [], ◌∷◌, ◌++◌, map}
+use Rattle.std.proofs.Common.{ℕ, ◌≡◌, refl, List, [], ◌∷◌, ◌++◌, map, None, Some}
+use Rattle.std.specs.List.{position}
 use Prim.Native.String.{String}
 use mathlib.Core.List.{flat_map}
-use Rattle.laws.specs.Lists.{any, all, filter}
 use Rattle.laws.specs.Texts.{same_bytes, bytes, known}
 use Rattle.tags.specs.Tag.{Entry, Parameter, Limits, Guard, ExpressionStatement, InAsset, Member, Call, Checked, Eq, Lt, composite, is_expression, is_statement, is_wrapper}
 use Rattle.fields.specs.Field.{fields, fields_to, nth, row, fields_from, size, sizes, placed, placed_from, place_of}
@@ -16,7 +16,8 @@ use Rattle.tokens.specs.Tokens.{single, beside_in_asset, token_named, tokens_nam
 use Rattle.tokens.specs.Numbers.{token_of, joined, joined_all, condition_number, tokens_number}
 use Rattle.tokens.specs.Place.{beside_place, token_place}
 use Rattle.fundings.specs.FundingTokens.{funds, ledger_funding_tokens, funding_token}
-use Rattle.fundings.specs.Fundings.{funding_number, is_map, before_map, number_of_map}
+use Rattle.fundings.specs.Fundings.{funding_number, is_map, number_of_map}
+use Rattle.fundings.specs.declared.ledger.Funding.{Funding}
 
 abbrev in_asset : List ℕ
 in_asset = write InAsset []
@@ -86,20 +87,23 @@ set_map m = call m "set" (x ++ amount "a")
 two-maps : List ℕ
 two-maps = set_map "m" ++ set_map "w"
 
--- three numbers of each
-abbrev listed : List ℕ
-listed = short_number (bytes "m") ∷ 6 ∷ 29 ∷ short_number (bytes "w") ∷ 42 ∷ 1 ∷ []
+-- what is listed of each
+abbrev listed_as : String → (place set : ℕ) → Funding
+listed_as m place set = record { number = short_number (bytes m); place = place; tokens = set }
+
+abbrev listed : List Funding
+listed = listed_as "m" 6 29 ∷ listed_as "w" 42 1 ∷ []
 
 -- a map's set is that of its own name; a map that is not listed has an empty one, and so has one whose number stands with another name
 looked-up : map (λ m. number_of_map two-maps m listed) (bytes "m" ∷ bytes "w" ∷ bytes "n" ∷ [])
-    ++ number_of_map two-maps (bytes "n") (short_number (bytes "n") ∷ 6 ∷ 29 ∷ []) ∷ []
+    ++ number_of_map two-maps (bytes "n") (listed_as "n" 6 29 ∷ []) ∷ []
     ≡ 29 ∷ 1 ∷ 0 ∷ 0 ∷ []
 unfolding fields fields_to nth composite same_bytes ident number_from is_map number_of_map two-maps
 looked-up = refl
 
--- where they stand: behind no number, behind three, behind all
-found : map (λ m. before_map two-maps m listed) (bytes "m" ∷ bytes "w" ∷ bytes "n" ∷ []) ≡ 0 ∷ 3 ∷ 6 ∷ []
-unfolding fields fields_to nth composite same_bytes ident number_from is_map before_map two-maps
+-- where they stand: the first, the second, nowhere
+found : map (λ m. position (is_map two-maps m) listed) (bytes "m" ∷ bytes "w" ∷ bytes "n" ∷ []) ≡ Some 0 ∷ Some 1 ∷ None ∷ []
+unfolding fields fields_to nth composite same_bytes ident number_from is_map two-maps
 found = refl
 
 -- an entry that credits another map

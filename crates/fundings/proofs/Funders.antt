@@ -1,14 +1,17 @@
--- The entries of a file, one after the other: the set found so far, with what those ahead name that fund the map, is the set of all.
-use Rattle.std.proofs.Common.{ℕ, ◌+◌, ◌-◌, ◌≤◌, ◌≡◌, refl, sym, ap, ◌∙◌, Bool, true, false, cond, not, List, map, arith, length, drop}
+-- The fields of a file, one after the other: the set found so far, with what the entries ahead name that fund the map, is the set of all.
+use Rattle.std.proofs.Common.{ℕ, ◌+◌, ◌-◌, ◌≤◌, ◌≡◌, refl, sym, ap, ◌∙◌, Bool, true, false, cond, not, List, ◌∷◌, map, arith, eq-eqb, ne_eqb, leb-true, length, drop, length-drop, drop-drop}
 use borrow.Author.Tests.{not-true, not-false}
 use Rattle.laws.specs.Lists.{filter}
-use Rattle.tags.specs.Tag.{Entry}
-use Rattle.fields.specs.Field.{Placed, fields, whole, after, front, from, placed_from}
-use Rattle.fields.proofs.Rows.{rest_of, from-shorter, from_less, from-placed, rest-next}
-use Rattle.fields.proofs.Tails.{tail-first, tail-next}
+use Rattle.tags.specs.Tag.{Entry, between}
+use Rattle.tags.proofs.Ranges.{between-one}
+use Rattle.fields.specs.Field.{Placed, length_of, whole, front, tag, placed_from}
+use Rattle.fields.specs.Row.{shown, left, Step}
+use Rattle.fields.specs.declared.field.Fields.{Fields}
+use Rattle.fields.specs.declared.field.Field.{Field as Found}
+use Rattle.fields.proofs.InARow.{left-next, placed-end}
 use Rattle.model.specs.Model.{entries}
 use Rattle.walking.specs.Table.{placed_at}
-use Rattle.tokens.specs.Numbers.{joined, joined_all, tokens_number}
+use Rattle.tokens.specs.Numbers.{joined, joined_all, tokens_number, Standing}
 use Rattle.tokens.proofs.Joining.{all-several}
 use Rattle.fundings.specs.FundingTokens.{funds}
 use Rattle.fundings.specs.Fundings.{funding_number}
@@ -27,57 +30,72 @@ module _ (file m : List ℕ) (n found : ℕ) (b : Bool) (x : List ℕ) (e : x �
   pub funding-too : not b ≡ false → (k : ℕ) → k ≡ tokens_number file (placed_at file n) → (r : ℕ) → r ≡ joined file found k → r ≡ with_entry
   funding-too h k g r q = q ∙ rw (← at_place, not-false b h, g)
 
--- what the entries from t on name, of those that fund the map
-abbrev numbers_from : (file m t : List ℕ) → List ℕ
-numbers_from file m t = map (tokens_number file) (filter (λ p. funds m p.this) (rest_of Entry Entry 0 file t))
+-- what the entries among some fields name, of those that fund the map
+abbrev numbers_among : (file m : List ℕ) → List Placed → List ℕ
+numbers_among file m ps = map (tokens_number file) (filter (λ p. funds m p.this) (filter (λ p. between Entry Entry (tag p.this)) ps))
 
--- t starts with an entry of the file, or has no whole field
-pub record Ledger (file m : List ℕ) (found : ℕ) (t : List ℕ) : Type 0 where
-  pub within : length t ≤ length file
-  pub tail : t ≡ drop (length file - length t) file
-  pub left : joined_all file found (numbers_from file m t) ≡ funding_number file m
+-- these fields of the file are left
+pub record Ledger (file m : List ℕ) (found : ℕ) (rest : Fields) : Type 0 where
+  pub tail : rest.rest.now ≡ drop rest.place file
+  pub within : rest.place ≤ length file
+  pub ahead : joined_all file found (numbers_among file m (left rest)) ≡ funding_number file m
 
-pub ledger-all : (file m t : List ℕ) → t ≡ from Entry Entry file → Ledger file m 0 t
-unfolding funding_number entries
-ledger-all file m t e = record {
-  within = rw e (from-shorter Entry Entry file);
-  tail = tail-first Entry Entry file t e;
-  left = rw (from-placed Entry Entry file 0, ← e);
+pub ledger-all : (file m : List ℕ) (it all : Fields) → all ≡ it → it.rest.now ≡ file → it.place ≡ 0 → Ledger file m 0 all
+unfolding funding_number entries placed_from
+ledger-all file m it all y r z = record {
+  tail = rw (y, r, z);
+  within = rw (y, z) (omega arith);
+  ahead = rw (y, r, z);
 }
 
-module _ (file m : List ℕ) (found : ℕ) (t : List ℕ) (i : Ledger file m found t) where
-  pub ledger-done : whole t ≡ false → found ≡ funding_number file m
+module _ (file m : List ℕ) (found : ℕ) (rest : Fields) (i : Ledger file m found rest) where
+  pub ledger-done : whole rest.rest.now ≡ false → found ≡ funding_number file m
   unfolding joined_all
-  ledger-done w = rw w at i.left
+  ledger-done w = rw (placed-end rest.rest.now w rest.place) at i.ahead
 
-  abbrev behind : List Placed
-  behind = placed_from Entry Entry (0 + (length file - length (after t))) (fields (after t))
+  module _ (f : Found) (behind : Fields) (h : Step rest f behind) where
+    pub ledger-standing : length file ≤ 32768 → Standing file f.place 0
+    ledger-standing s = record { short = s; within = rw h.place i.within; few = omega arith }
 
-  module _ (w : whole t ≡ true) (k : ℕ)
-      (f : k ≡ cond (funds m (front (drop (length file - length t) file))) (joined file found (tokens_number file (placed_at file (length file - length t)))) found) where
-    entry-passed : joined_all file k (map (tokens_number file) (filter (λ p. funds m p.this) behind)) ≡ funding_number file m
-    unfolding joined_all
-    entry-passed = rw f (go (funds m (front t)) refl)
-      where
-        z : 0 + (length file - length t) ≡ length file - length t
-        z = omega arith
+    there : front (drop f.place file) ≡ front f.part.now
+    there = rw (h.place, ← i.tail, ← h.part)
 
-        go : (b : Bool) → funds m (front t) ≡ b →
-            joined_all file (cond (funds m (front (drop (length file - length t) file))) (joined file found (tokens_number file (placed_at file (length file - length t)))) found)
-            (map (tokens_number file) (filter (λ p. funds m p.this) behind)) ≡ funding_number file m
-        go true b = rw (← i.tail, b) (rw (w, z, b) at i.left)
-        go false b = rw (← i.tail, b) (rw (w, z, b) at i.left)
+    behind-tail : behind.rest.now ≡ drop behind.place file
+    behind-tail =
+        h.rest
+        ∙ rw h.behind (ap (drop (3 + length_of rest.rest.now)) i.tail ∙ drop-drop (3 + length_of rest.rest.now) rest.place file)
 
-    pub ledger-several : k ≡ 1 → 1 ≡ funding_number file m
-    ledger-several e =
-        let q : joined_all file k (map (tokens_number file) (filter (λ p. funds m p.this) behind)) ≡ funding_number file m = entry-passed in
-        sym (all-several file (map (tokens_number file) (filter (λ p. funds m p.this) behind)))
-        ∙ ap (λ j. joined_all file j (map (tokens_number file) (filter (λ p. funds m p.this) behind))) (sym e)
-        ∙ q
+    behind-within : behind.place ≤ length file
+    behind-within =
+        let l : length rest.rest.now ≡ length file - rest.place = ap length i.tail ∙ length-drop rest.place file in
+        omega (arith, i.within, l, h.behind, leb-true (3 + length_of rest.rest.now) (length rest.rest.now) h.there)
 
-    pub ledger-on : (y u : List ℕ) → y ≡ after t → u ≡ from Entry Entry y → Ledger file m k u
-    ledger-on y u a b = record {
-      within = omega (arith, i.within, from_less Entry Entry t y u w a b);
-      tail = tail-next Entry Entry file t y u i.tail a b;
-      left = rw (b, a, ← rest-next Entry Entry 0 file t i.within) entry-passed;
-    }
+    module _ (g : ℕ) (e : g ≡ tag (front f.part.now)) where
+      -- another field is passed over
+      pub ledger-past : (g ≡ Entry → ⊥) → Ledger file m found behind
+      ledger-past n = record {
+        tail = behind-tail;
+        within = behind-within;
+        ahead = rw (left-next rest f behind h, ← e, between-one Entry g, ne_eqb g Entry n) at i.ahead;
+      }
+
+      module _ (q : g ≡ Entry) (k : ℕ)
+          (j : k ≡ cond (funds m (front (drop f.place file))) (joined file found (tokens_number file (placed_at file f.place))) found) where
+        entry-passed : joined_all file k (numbers_among file m (left behind)) ≡ funding_number file m
+        unfolding joined_all
+        entry-passed = rw (j, there) (go (funds m (front f.part.now)) refl (rw (left-next rest f behind h, ← e, between-one Entry g, eq-eqb g Entry q) at i.ahead))
+          where
+            go : (b : Bool) → funds m (front f.part.now) ≡ b →
+                joined_all file found (map (tokens_number file) (filter (λ p. funds m p.this) (shown f ∷ filter (λ p. between Entry Entry (tag p.this)) (left behind)))) ≡ funding_number file m →
+                joined_all file (cond b (joined file found (tokens_number file (record { place = f.place; this = front f.part.now }))) found) (numbers_among file m (left behind)) ≡ funding_number file m
+            go true b r = rw b at r
+            go false b r = rw b at r
+
+        pub ledger-several : k ≡ 1 → 1 ≡ funding_number file m
+        ledger-several o =
+            sym (all-several file (numbers_among file m (left behind)))
+            ∙ ap (λ n. joined_all file n (numbers_among file m (left behind))) (sym o)
+            ∙ entry-passed
+
+        pub ledger-on : Ledger file m k behind
+        ledger-on = record { tail = behind-tail; within = behind-within; ahead = entry-passed }

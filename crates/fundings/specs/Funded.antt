@@ -1,37 +1,22 @@
--- What is the same for all entries of a file, as numbers of two bytes in one lent table: how many numbers are listed of the maps
--- that some call funds, then one for each state field, and behind them what is listed.
-use Rattle.std.specs.Prelude.{ℕ, ◌+◌, ◌≤◌, ◌≡◌, cond, List, ltb, length, get_or, take, drop}
+-- What is the same for all entries of a file: the maps that some call funds, and what is remembered of each state field.
+use Rattle.std.specs.Prelude.{ℕ, ◌≡◌, true, cond, List, Option, None, Some, eqb, get_or}
 use Rattle.tokens.specs.Numbers.{not_yet}
-use Rattle.fundings.specs.Fundings.{funding_number, number_of_map}
+use Rattle.fundings.specs.Fundings.{EachMap}
+use Rattle.fundings.specs.declared.facts.Facts.{Facts}
 
 -- how many state fields something is remembered of: one takes 11 bytes at least
 abbrev pub state_fields : ℕ
 state_fields = 2979
 
--- where the listed maps start
-abbrev pub listed_from : ℕ
-listed_from = 2980
+-- what is said of the maps that some call funds: if they are listed, each map's set
+pub record Funded (file : List ℕ) (facts : Facts) : Type 0 where
+  pub listed : facts.listed ≡ true → EachMap file facts.maps.items
 
--- how many of their numbers find room
-abbrev pub listed_room : ℕ
-listed_room = 3171
+-- what is remembered of the i-th state field; past the last, nothing
+unfoldable pub remembered_at : Facts → ℕ → Option ℕ
+remembered_at facts i = cond (eqb (get_or facts.held i not_yet) not_yet) None (Some (get_or facts.held i not_yet))
 
--- the size of the whole table
-abbrev pub facts_size : ℕ
-facts_size = 6151
-
--- what a table says of the maps that some call funds: how many numbers are listed of them, and each map's set
-pub record Funded (file facts : List ℕ) : Type 0 where
-  pub long : length facts ≡ facts_size
-  pub room : (get_or facts 0 0 ≡ not_yet → ⊥) → get_or facts 0 0 ≤ listed_room
-  pub listed : (get_or facts 0 0 ≡ not_yet → ⊥) → (m : List ℕ) →
-      number_of_map file m (take (get_or facts 0 0) (drop listed_from facts)) ≡ funding_number file m
-
--- what is remembered of the i-th state field; past the last, nothing yet
-unfoldable pub remembered_at : List ℕ → ℕ → ℕ
-remembered_at facts i = cond (ltb i state_fields) (get_or facts (1 + i) 0) not_yet
-
--- a table after the maps were listed: what it says of state fields is kept
-pub record Relisted (file facts last : List ℕ) : Type 0 where
+-- the facts after the maps were listed: what they say of state fields is kept
+pub record Relisted (file : List ℕ) (facts last : Facts) : Type 0 where
   pub funded : Funded file last
   pub kept : (i : ℕ) → remembered_at last i ≡ remembered_at facts i

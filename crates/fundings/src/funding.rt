@@ -5,7 +5,6 @@ ghost use Rattle.fields.specs.Field.{front};
 ghost use Rattle.fundings.specs.FundingTokens.{funds};
 
 use fields::bytes::skip;
-use fields::table::number_at;
 use tags::CALL;
 use tokens::inflow::is_funding;
 use walking::walk::{MOST_FIELDS, list_body};
@@ -15,14 +14,10 @@ pub fn entry_funds(s: &[u8], map: &[u8]) -> bool
     requires { length s.now ≤ 32768 }
     ensures { result ≡ funds map.now (front s.now) }
 {
-    let mut calls = [0u16; MOST_FIELDS];
-    let count = list_body(s, 0, CALL, &mut calls);
-    let mut i = 0;
-    while i < count {
-        if is_funding(map, s, skip(s, number_at(&calls, i))) {
-            return true;
-        }
-        i += 1;
-    }
-    false
+    let mut table = [0u16; MOST_FIELDS];
+    let calls = list_body(s, 0, CALL, &mut table);
+    calls
+        .listed()
+        .iter()
+        .any(|&call| is_funding(map, s, skip(s, usize::from(call))))
 }

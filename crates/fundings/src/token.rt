@@ -10,7 +10,7 @@ ghost use Rattle.fundings.specs.Fundings.{funding_number};
 
 use super::funding::entry_funds;
 use fields::bytes::skip;
-use fields::front::{after_front, first_from, is_whole};
+use fields::row::fields_at;
 use tags::ENTRY;
 use tokens::number::{join, token_of, tokens_number};
 use walking::walk::MOST_FIELDS;
@@ -35,14 +35,14 @@ pub fn ledger_funding_number(file: &[u8], map: &[u8]) -> usize
 {
     let mut table = [0u16; MOST_FIELDS];
     let mut found = 0;
-    let mut t = first_from(file, ENTRY, ENTRY);
-    while is_whole(t) {
-        found = joined_with(file, map, found, file.len() - t.len(), &mut table);
+    for field in fields_at(file, 0) {
+        if field.tag() != ENTRY {
+            continue;
+        }
+        found = joined_with(file, map, found, field.place, &mut table);
         if found == 1 {
             return 1;
         }
-        let u = first_from(after_front(t), ENTRY, ENTRY);
-        t = u;
     }
     found
 }

@@ -1,202 +1,143 @@
 // Which tags may stand where, and which parts are needed: the rows of the grammar.
 #![tactic(auto)]
 
-ghost use Rattle.std.specs.Prelude.{◌≡◌, Bool, [], ◌∷◌, ◌<◌};
-ghost use Rattle.tags.specs.Tag.{is_expression, is_statement};
-ghost use Rattle.grammar.specs.Grammar.{in_class, takes, slots_of, advance, complete};
-ghost use Rattle.grammar.specs.Slots.{up_to_zero, slot_list, left_by};
+ghost use Rattle.std.specs.Prelude.{◌≡◌};
+ghost use Rattle.std.specs.Option.{option_map};
+ghost use Rattle.grammar.specs.Grammar.{in_class, takes, may_stay_empty, goes_on, slots_of, advance, complete};
+ghost use Rattle.grammar.specs.Slots.{class_number, slot_number, slot_list};
 
+use self::Slot::{Many, One, Optional};
 use tags::{
-    CALL, EMIT, ENTRY, GENESIS, LET, MEMBER, NAME, NOT, OR, PARAMETER, STATE, TYPE_NAME, is_assign,
+    CALL, CHECKED, DENIES, EMIT, ENTRY, EXPRESSION_STATEMENT, GENESIS, GUARD, LET, LIMITS, MEMBER,
+    NAME, NEGATE, NOT, OR, PARAMETER, SET, SHR, STATE, SUBTRACT_FROM, TYPE_NAME, WRAPPING,
     is_clause, is_expression, is_item, is_statement,
 };
 
-// The slots that are left for the parts of a field, the next one first; 0 is none. A slot is a class of tags, with 16 more
-// for at most one part and 32 more for any count.
+// The classes of tags that a part may have.
+#[derive(Clone, Copy, PartialEq, Eq)]
+pub enum Class {
+    Name = 1,
+    TypeName = 2,
+    Item = 3,
+    Parameter = 4,
+    Clause = 5,
+    Statement = 6,
+    Expression = 7,
+}
+
+// A slot is for one part of a class, for at most one, or for any count.
+#[derive(Clone, Copy, PartialEq, Eq)]
+pub enum Slot {
+    One(Class),
+    Optional(Class),
+    Many(Class),
+}
+
+// The slots that are left for the parts of a field, the next one first.
 #[derive(Clone, Copy)]
 pub struct Slots {
-    pub first: u8,
-    pub second: u8,
-    pub third: u8,
-    pub fourth: u8,
+    pub left: &'static [Slot],
 }
 
-// The classes, and the slots that are not for exactly one part.
-const NAMES: u8 = 1;
-
-const TYPE_NAMES: u8 = 2;
-
-const EXPRESSIONS: u8 = 7;
-
-const STATEMENTS: u8 = 6;
-
-const OPTIONAL_EXPRESSION: u8 = 0x17;
-
-const MANY_ITEMS: u8 = 0x23;
-
-const MANY_PARAMETERS: u8 = 0x24;
-
-const MANY_CLAUSES: u8 = 0x25;
-
-const MANY_STATEMENTS: u8 = 0x26;
-
-const MANY_EXPRESSIONS: u8 = 0x27;
-
-// The answer to question 3.
-#[derive(Drop)]
-pub enum Advanced {
-    To(Slots),
-    Refused,
-}
-
-// Whether a tag is of a class.
-pub fn in_class(class: u8, tag: u8) -> bool
-    ensures { result ≡ in_class class tag }
-{
-    (class == 1) & (tag == NAME)
-        | (class == 2) & (tag == TYPE_NAME)
-        | (class == 3) & is_item(tag)
-        | (class == 4) & (tag == PARAMETER)
-        | (class == 5) & is_clause(tag)
-        | (class == 6) & is_statement(tag)
-        | (class == 7) & is_expression(tag)
-}
-
-fn row(first: u8, second: u8, third: u8, fourth: u8) -> Slots
-    ensures { slot_list result ≡ up_to_zero (first ∷ second ∷ third ∷ fourth ∷ []) }
-{
-    Slots {
-        first: first,
-        second: second,
-        third: third,
-        fourth: fourth,
+impl Class {
+    // Whether a tag is of the class.
+    #[tactic(auto, unfolding(crate::specs::Grammar::in_class))]
+    pub fn has(self, tag: u8) -> bool
+        ensures { result ≡ in_class (class_number self) tag }
+    {
+        match self {
+            Class::Name => tag == NAME,
+            Class::TypeName => tag == TYPE_NAME,
+            Class::Item => is_item(tag),
+            Class::Parameter => tag == PARAMETER,
+            Class::Clause => is_clause(tag),
+            Class::Statement => is_statement(tag),
+            Class::Expression => is_expression(tag),
+        }
     }
 }
 
-// 30 to 3D, 40 to 4D
-fn expression_slots(tag: u8) -> Slots
-    requires { is_expression tag ≡ Bool.true }
-    ensures { slot_list result ≡ slots_of tag }
-{
-    if OR <= tag {
-        return row(EXPRESSIONS, EXPRESSIONS, 0, 0);
+impl Slot {
+    // Whether a part with this tag goes into the slot.
+    fn takes(self, tag: u8) -> bool
+        ensures { result ≡ takes (slot_number self) tag }
+    {
+        let (One(class) | Optional(class) | Many(class)) = self;
+        class.has(tag)
     }
-    if tag == CALL {
-        return row(EXPRESSIONS, MANY_EXPRESSIONS, 0, 0);
-    }
-    if tag == MEMBER {
-        return row(EXPRESSIONS, NAMES, 0, 0);
-    }
-    if NOT <= tag {
-        return row(EXPRESSIONS, 0, 0, 0);
-    }
-    row(0, 0, 0, 0)
-}
 
-// 10 to 16
-fn statement_slots(tag: u8) -> Slots
-    requires { is_statement tag ≡ Bool.true }
-    ensures { slot_list result ≡ slots_of tag }
-{
-    if is_assign(tag) {
-        return row(EXPRESSIONS, EXPRESSIONS, 0, 0);
+    // Whether the slot needs no part.
+    fn may_stay_empty(self) -> bool
+        ensures { result ≡ may_stay_empty (slot_number self) }
+    {
+        !matches!(self, One(_))
     }
-    if tag == LET {
-        return row(NAMES, EXPRESSIONS, 0, 0);
-    }
-    if tag == EMIT {
-        return row(NAMES, MANY_EXPRESSIONS, 0, 0);
-    }
-    row(EXPRESSIONS, 0, 0, 0)
-}
 
-// 01 to 06, 00 for the file itself, and none for the others
-fn item_slots(tag: u8) -> Slots
-    requires { (is_expression tag ≡ Bool.false) × (is_statement tag ≡ Bool.false) }
-    ensures { slot_list result ≡ slots_of tag }
-{
-    if tag == 0 {
-        return row(MANY_ITEMS, 0, 0, 0);
+    // Whether the slot takes more parts.
+    fn goes_on(self) -> bool
+        ensures { result ≡ goes_on (slot_number self) }
+    {
+        matches!(self, Many(_))
     }
-    if tag == STATE {
-        return row(NAMES, TYPE_NAMES, OPTIONAL_EXPRESSION, 0);
-    }
-    if tag == GENESIS {
-        return row(STATEMENTS, 0, 0, 0);
-    }
-    if tag == ENTRY {
-        return row(NAMES, MANY_PARAMETERS, MANY_CLAUSES, MANY_STATEMENTS);
-    }
-    if tag == PARAMETER {
-        return row(NAMES, TYPE_NAMES, 0, 0);
-    }
-    if is_clause(tag) {
-        return row(EXPRESSIONS, 0, 0, 0);
-    }
-    row(0, 0, 0, 0)
 }
 
 // The slots for the parts of a field.
+#[tactic(auto, unfolding(crate::specs::Grammar::grammar, crate::specs::Grammar::slots_in))]
 pub fn slots_of(tag: u8) -> Slots
     ensures { slot_list result ≡ slots_of tag }
 {
-    if is_expression(tag) {
-        return expression_slots(tag);
-    }
-    if is_statement(tag) {
-        return statement_slots(tag);
-    }
-    item_slots(tag)
+    let left: &'static [Slot] = match tag {
+        0 => &[Many(Class::Item)],
+        STATE => &[
+            One(Class::Name),
+            One(Class::TypeName),
+            Optional(Class::Expression),
+        ],
+        GENESIS => &[One(Class::Statement)],
+        ENTRY => &[
+            One(Class::Name),
+            Many(Class::Parameter),
+            Many(Class::Clause),
+            Many(Class::Statement),
+        ],
+        PARAMETER => &[One(Class::Name), One(Class::TypeName)],
+        LET => &[One(Class::Name), One(Class::Expression)],
+        EMIT => &[One(Class::Name), Many(Class::Expression)],
+        LIMITS..=DENIES | GUARD | EXPRESSION_STATEMENT => &[One(Class::Expression)],
+        NOT | NEGATE | CHECKED | WRAPPING => &[One(Class::Expression)],
+        SET..=SUBTRACT_FROM | OR..=SHR => &[One(Class::Expression), One(Class::Expression)],
+        MEMBER => &[One(Class::Expression), One(Class::Name)],
+        CALL => &[One(Class::Expression), Many(Class::Expression)],
+        _ => &[],
+    };
+    Slots { left: left }
 }
 
 impl Slots {
-    // The slots behind the first.
-    fn behind(self) -> Slots
-        ensures { slot_list result ≡ up_to_zero (self.second ∷ self.third ∷ self.fourth ∷ 0 ∷ []) }
-    {
-        Slots {
-            first: self.second,
-            second: self.third,
-            third: self.fourth,
-            fourth: 0,
-        }
-    }
-
     // Question 3: the slots that are left behind a part with this tag, if it may stand here.
-    pub fn advance(self, tag: u8) -> Advanced
-        ensures { left_by result ≡ advance (slot_list self) tag }
+    #[tactic(auto, unfolding(crate::specs::Grammar::advance))]
+    pub fn advance(self, tag: u8) -> Option<Slots>
+        ensures { option_map slot_list result ≡ advance (slot_list self) tag }
     {
-        let mut left = self;
-        while left.first != 0 {
-            let slot = left.first;
-            let behind = left.behind();
-            if in_class(slot % 0x10, tag) {
-                if 0x20 <= slot {
-                    return Advanced::To(left);
-                }
-                return Advanced::To(behind);
+        let mut left = self.left;
+        while let Some((slot, behind)) = left.split_first() {
+            if slot.takes(tag) {
+                return Some(Slots {
+                    left: if slot.goes_on() { left } else { behind },
+                });
             }
-            if slot < 0x10 {
-                return Advanced::Refused;
+            if !slot.may_stay_empty() {
+                return None;
             }
             left = behind;
         }
-        Advanced::Refused
+        None
     }
 
     // Question 6: was every needed part there?
     pub fn is_complete(self) -> bool
         ensures { result ≡ complete (slot_list self) }
     {
-        let mut left = self;
-        while left.first != 0 {
-            let slot = left.first;
-            if slot < 0x10 {
-                return false;
-            }
-            let behind = left.behind();
-            left = behind;
-        }
-        true
+        self.left.iter().all(|slot| slot.may_stay_empty())
     }
 }

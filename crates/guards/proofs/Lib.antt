@@ -1,3 +1,3 @@
 pub mod Members
-pub mod Paid
+pub mod Bounding
 pub mod Lowerings

@@ -1,26 +1,31 @@
 -- A statement that lowers a field by an amount has the field as its target, so it is among those that are listed for the amount, by
 -- its target's name. Each takes nine bytes at least.
-use Rattle.std.proofs.Common.{ℕ, ◌+◌, ◌*◌, ◌%◌, ◌≤◌, ◌<◌, ◌≡◌, refl, sym, ◌∙◌, Bool, true, false, cond, not, ◌&&◌, ◌||◌, List, [], ◌∷◌, ◌++◌, arith, mod-eq_of_lt, leb-true, le-leb, eqb, leb}
-use Rattle.std.proofs.Common.{length, take, drop, length-append, length-drop, length-take-le}
+use Rattle.std.proofs.Common.{ℕ, ◌+◌, ◌*◌, ◌≤◌, ◌≡◌, refl, sym, ◌∙◌, Bool, true, false, cond, not, ◌&&◌, ◌||◌, List, [], ◌∷◌, ◌++◌, arith, leb-true, le-leb, eqb, leb}
+use Rattle.std.proofs.Common.{length, take, drop, length-append, length-drop}
 use mathlib.Core.Bool.{and-false}
 use mathlib.Core.List.{flat_map}
-use lib.Seq.{length-sets}
 use Rattle.laws.proofs.Truths.{chosen, and_left, and_right}
 use Rattle.laws.proofs.Texts.{bytes-equal}
 use Rattle.laws.specs.Texts.{same_bytes}
-use Rattle.laws.specs.Lists.{any, filter}
+use Rattle.laws.specs.Lists.{any}
 use Rattle.laws.proofs.Lists.{any-first, Every}
 use Rattle.tags.specs.Tag.{Guard, Set, SubtractFrom, ExpressionStatement, Sub, between, is_assign, is_wrapper}
+use Rattle.fields.specs.Lists.{Lists}
+use Rattle.fields.specs.Row.{Step}
 use Rattle.fields.specs.Table.{Listed}
+use Rattle.fields.specs.declared.field.Field.{Field as Found}
+use Rattle.fields.specs.declared.field.Fields.{Fields as Row}
+use Rattle.fields.specs.declared.named.Named.{Named}
+use Rattle.fields.specs.declared.table.Table.{Table}
 use Rattle.fields.specs.Number.{short_number}
-use Rattle.fields.specs.Field.{Field, Fields, Placed, length_of, whole, front, tag, parts, part, nth, nothing, size, sizes, row, fields_from, placed}
+use Rattle.fields.specs.Field.{Field, Fields, Placed, length_of, whole, front, tag, parts, part, nth, nothing, fields, size, sizes, row, fields_from, placed}
 use Rattle.fields.specs.Field.Field.{field}
 use Rattle.fields.specs.Field.Fields.{end, next}
 use Rattle.fields.proofs.Reading.{front-none}
 use Rattle.fields.proofs.Places.{front-size, parts-inside, size-least}
 use Rattle.fields.proofs.Inside.{Stands, parts-stand}
-use Rattle.fields.proofs.Tables.{listed-front}
-use Rattle.fields.proofs.Listing.{Row}
+use Rattle.fields.proofs.Tables.{listed-none, listed-front}
+use Rattle.fields.proofs.Gathering.{Gathers}
 use Rattle.model.specs.Model.{body}
 use Rattle.walking.specs.Walking.{peel, peel_first}
 use Rattle.walking.specs.Table.{placed_at}
@@ -97,98 +102,90 @@ module _ (amount : Field) where
   lowering-size (field t x (next f (end r))) h = leb-true 9 (size (field t x (next f (end r)))) (cc (no-lowering amount (field t x (next f (end r))) refl))
   lowering-size (field t x (next f (next g gs))) h = omega (arith, size-least f, size-least g)
 
-  one-few : (p : Placed) → 9 * length (lowering_at amount p) ≤ 2 * size p.this
+  at-most-one : (p : Placed) → 9 * length (lowering_at amount p) ≤ size p.this
   unfolding lowering_at
-  one-few p = go (is_lowering amount p.this) refl
+  at-most-one p = go (is_lowering amount p.this) refl
     where
-      go : (k : Bool) → is_lowering amount p.this ≡ k → 9 * length (cond k (short_number (target p.this) ∷ p.place % 65536 ∷ []) []) ≤ 2 * size p.this
+      go : (k : Bool) → is_lowering amount p.this ≡ k →
+          9 * length {A = Named} (cond k (record { number = short_number (target p.this); place = p.place } ∷ []) []) ≤ size p.this
       go true e = omega (arith, lowering-size p.this e)
       go false e = omega arith
 
-  many-few : (n : ℕ) (fs : Fields) → 9 * length (flat_map (lowering_at amount) (placed n fs)) ≤ 2 * sizes fs
+  -- what is listed of a row
+  abbrev pub lowerings_in : ℕ → Fields → List Named
+  lowerings_in n fs = flat_map (lowering_at amount) (placed n fs)
+
+  few-lowerings : (n : ℕ) (fs : Fields) → 9 * length (lowerings_in n fs) ≤ sizes fs
   unfolding flat_map placed sizes
-  many-few n (end r) = omega arith
-  many-few n (next f fs) =
-      rw (length-append (lowering_at amount (record { place = n; this = f })) (flat_map (lowering_at amount) (placed (n + size f) fs)))
-      (omega (arith, one-few (record { place = n; this = f }), many-few (n + size f) fs))
+  few-lowerings n (end r) = omega arith
+  few-lowerings n (next f fs) =
+      rw (length-append (lowering_at amount (record { place = n; this = f })) (lowerings_in (n + size f) fs))
+      (omega (arith, at-most-one (record { place = n; this = f }), few-lowerings (n + size f) fs))
 
--- Along the parts of an entry
-
--- what is written of a part, and of a row of them
-abbrev pub one_of : Field → ℕ → Fields → List ℕ
-one_of amount n fs = lowering_at amount (record { place = n; this = nth 0 fs })
-
-abbrev pub many_of : Field → ℕ → Fields → List ℕ
-many_of amount n fs = flat_map (lowering_at amount) (placed n fs)
-
-pub lowering-row : (amount : Field) → Row (one_of amount) (many_of amount)
-unfolding flat_map placed nth
-lowering-row amount = record {
-  none = λ n r. refl;
-  more = λ n f fs. refl;
-  few = λ n f fs. omega (arith, one-few amount (record { place = n; this = f }), size-least f);
-}
+  pub lowerings : Gathers (λ n f. lowering_at amount (record { place = n; this = f })) lowerings_in
+  unfolding flat_map placed
+  lowerings =
+      record {
+        none = λ n r. refl;
+        more = λ n f fs. refl;
+        few = λ n f. omega (arith, at-most-one (record { place = n; this = f }));
+      }
 
 -- The entry at a place of the file
 
 module _ (amount : Field) (file : List ℕ) (place : ℕ) where
-  small-parts : place + 3 + sizes (parts (front (drop place file))) ≤ place + 3 + length file
+  parts-few : sizes (parts (front (drop place file))) ≤ length file
   unfolding sizes
-  small-parts = go (whole (drop place file)) refl
+  parts-few = go (whole (drop place file)) refl
     where
-      go : (w : Bool) → whole (drop place file) ≡ w → place + 3 + sizes (parts (front (drop place file))) ≤ place + 3 + length file
+      go : (w : Bool) → whole (drop place file) ≡ w → sizes (parts (front (drop place file))) ≤ length file
       go true w =
           omega (arith, parts-inside (front (drop place file)), front-size (drop place file) w, leb-true (3 + length_of (drop place file)) (length (drop place file)) w, length-drop place file)
       go false w = rw (front-none (drop place file) w) (omega arith)
 
-  numbers-few : 9 * length (lowering_numbers amount (placed_at file place)) ≤ 2 * length file
+  -- what list_lowerings lists finds room in a table of one for each nine bytes of the file
+  pub lowerings-listed : (table : List Named) (last : Table Named) → Listed (lowering_numbers amount (placed_at file place)) table 0 last.items.now last.count →
+      length file ≤ 9 * length table → (ls : List Named) → ls ≡ take last.count last.items.now → ls ≡ lowering_numbers amount (placed_at file place)
   unfolding lowering_numbers
-  numbers-few = omega (arith, many-few amount (place + 3) (parts (front (drop place file))), small-parts)
+  lowerings-listed table last l k ls e =
+      e ∙ listed-front (lowering_numbers amount (placed_at file place)) table last.items.now last.count l
+      (omega (arith, l.count, few-lowerings amount (place + 3) (parts (front (drop place file))), parts-few, k))
 
-  -- what list_lowerings writes finds room in a table of two numbers for each nine bytes of the file
-  module _ (table last : List ℕ) (count : ℕ) (l : Listed (lowering_numbers amount (placed_at file place)) table 0 last count) (k : 2 * length file ≤ 9 * length table) where
-    enough : count ≤ length table
-    enough = omega (arith, l.count, numbers-few)
-
-    pub lowerings-room : count ≤ length last
-    lowerings-room = rw (l.kept, length-sets) enough
-
-    pub lowerings-count : count ≡ length (take count last)
-    lowerings-count = sym (length-take-le count last lowerings-room)
-
-    pub lowerings-listed : take count last ≡ lowering_numbers amount (placed_at file place)
-    lowerings-listed = listed-front (lowering_numbers amount (placed_at file place)) table last count l enough
-
--- Read back, the numbers tell whether r is lowered
+-- Among them one has the target r where some statement lowers r
 
 module _ (amount : Field) (file r : List ℕ) where
-  one-read : (n : ℕ) (f : Field) → front (drop n file) ≡ f → n < 65536 → (ks : List ℕ) →
-      lowered_in file r (lowering_at amount (record { place = n; this = f }) ++ ks) ≡ lowers amount r f || lowered_in file r ks
-  unfolding lowering_at lowered_in lowers_at
-  one-read n f e l ks = go (is_lowering amount f) refl
+  one-read : (n : ℕ) (f : Field) → front (drop n file) ≡ f → (ls : List Named) →
+      lowered_in file r (lowering_at amount (record { place = n; this = f }) ++ ls) ≡ lowers amount r f || lowered_in file r ls
+  unfolding lowering_at lowers_at
+  one-read n f e ls = go (is_lowering amount f) refl
     where
       go : (k : Bool) → is_lowering amount f ≡ k →
-          lowered_in file r (cond k (short_number (target f) ∷ n % 65536 ∷ []) [] ++ ks) ≡ lowers amount r f || lowered_in file r ks
-      go true i = rw (mod-eq_of_lt l, e, number-told (target f) r, ← lowers-by amount r f, i)
+          lowered_in file r (cond k (record { number = short_number (target f); place = n } ∷ []) [] ++ ls) ≡ lowers amount r f || lowered_in file r ls
+      go true i = rw (e, number-told (target f) r, ← lowers-by amount r f, i)
       go false i = rw (← lowers-by amount r f, i)
 
-  row-read : (n : ℕ) (fs : Fields) → Every (Stands file) (placed n fs) → n + sizes fs ≤ 65538 →
-      lowered_in file r (many_of amount n fs) ≡ any (lowers amount r) (row fs)
-  unfolding flat_map placed sizes row lowered_in
-  row-read n (end z) e l = refl
-  row-read n (next f fs) e l =
-      one-read n f e.0 (omega (arith, size-least f)) (many_of amount (n + size f) fs) ∙ rw (row-read (n + size f) fs e.1 (omega arith))
+  row-read : (n : ℕ) (fs : Fields) → Every (Stands file) (placed n fs) → lowered_in file r (lowerings_in amount n fs) ≡ any (lowers amount r) (row fs)
+  unfolding flat_map placed row
+  row-read n (end z) e = refl
+  row-read n (next f fs) e = one-read n f e.0 (lowerings_in amount (n + size f) fs) ∙ rw (row-read (n + size f) fs e.1)
 
-pub lowerings-decide : (amount : Field) (file : List ℕ) (place : ℕ) (r : List ℕ) → length file ≤ 32768 →
+pub lowerings-decide : (amount : Field) (file : List ℕ) (place : ℕ) (r : List ℕ) →
     lowered_in file r (lowering_numbers amount (placed_at file place)) ≡ any (lowers amount r) (body (front (drop place file)))
-unfolding lowering_numbers flat_map placed lowered_in body fields_from row
-lowerings-decide amount file place r h = go (whole (drop place file)) refl
-  where
-    go : (w : Bool) → whole (drop place file) ≡ w →
-        lowered_in file r (many_of amount (place + 3) (parts (front (drop place file)))) ≡ any (lowers amount r) (body (front (drop place file)))
-    go true w =
-        let k = leb-true (3 + length_of (drop place file)) (length (drop place file)) w in
-        row-read amount file r (place + 3) (parts (front (drop place file))) (parts-stand file (placed_at file place) refl)
-        (omega (arith, parts-inside (front (drop place file)), front-size (drop place file) w, k, length-drop place file, h))
-        ∙ any-lowers amount r (front (drop place file))
-    go false w = rw (front-none (drop place file) w)
+unfolding lowering_numbers
+lowerings-decide amount file place r =
+    row-read amount file r (place + 3) (parts (front (drop place file))) (parts-stand file (placed_at file place) refl)
+    ∙ any-lowers amount r (front (drop place file))
+
+-- What the code lists
+
+module _ (amount : Field) (file : List ℕ) (place : ℕ) (s : Row) (e : s.rest.now ≡ drop place file) (t : List Named) (none : Table Named)
+    (i : none.items.now ≡ t) (z : none.count ≡ 0) where
+  pub no-entry : whole s.rest.now ≡ false → Listed (lowering_numbers amount (placed_at file place)) t 0 none.items.now none.count
+  unfolding lowering_numbers flat_map placed
+  no-entry w = rw (← e, front-none s.rest.now w, i, z) (listed-none t 0)
+
+  module _ (k : s.place ≡ place) (f : Found) (b : Row) (h : Step s f b) (x all : Row) (g : all ≡ x) (y : x.place ≡ f.place + 3) where
+    pub parts-listed : fields x.rest.now ≡ parts (front f.part.now) →
+        (u : Table Named) → Lists (lowerings_in amount all.place (fields all.rest.now)) none u → Listed (lowering_numbers amount (placed_at file place)) t 0 u.items.now u.count
+    unfolding lowering_numbers
+    parts-listed l u p = rw (← e, ← h.part, ← l) (rw (g, y, h.place, k, i, z) at p)

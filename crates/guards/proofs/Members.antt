@@ -1,15 +1,14 @@
 -- Only a member can be `p.amount`, so a table of the members in an amount has all that matter. An asset parameter without a
 -- name is the exception: what is no `p.amount` names it.
-use Rattle.std.proofs.Common.{ℕ, ◌+◌, ◌*◌, ◌≤◌, ◌≡◌, refl, sym, ◌∙◌, Bool, true, false, cond, ◌&&◌, List, [], ◌∷◌, ◌++◌, arith, leb-true, eqb-true, eqb, length, take, length-take-le}
+use Rattle.std.proofs.Common.{ℕ, ◌+◌, ◌*◌, ◌≤◌, ◌≡◌, refl, sym, ◌∙◌, Bool, true, false, cond, ◌&&◌, List, [], ◌∷◌, ◌++◌, arith, leb-true, eqb-true, eqb, ap, length, take, drop}
 use mathlib.Core.List.{map-append}
-use lib.Seq.{length-sets}
-use Rattle.laws.proofs.Seeking.{Seeking}
 use Rattle.laws.specs.Texts.{same_bytes, bytes}
-use Rattle.laws.specs.Lists.{any, filter}
+use Rattle.laws.specs.Lists.{any}
 use Rattle.laws.proofs.Truths.{or_left, or-either}
-use Rattle.laws.proofs.Lists.{any_left, any-first}
+use Rattle.laws.proofs.Lists.{any_left, any-first, any-map}
 use Rattle.tags.specs.Tag.{Member, Identifier, is_expression}
 use Rattle.fields.specs.Table.{Listed, fields_at}
+use Rattle.fields.specs.declared.table.Table.{Table}
 use Rattle.fields.specs.Field.{Field, Fields, length_of, whole, front, tag, text, part, nth, size}
 use Rattle.fields.specs.Field.Field.{field}
 use Rattle.fields.specs.Field.Fields.{end, next}
@@ -20,7 +19,6 @@ use Rattle.walking.specs.Walking.{walk, walk_parts, without_places, ident, asset
 use Rattle.walking.specs.Table.{places_of}
 use Rattle.walking.proofs.Callers.{expression-few, expression-read}
 use Rattle.tokens.specs.Tokens.{is_inflow}
-use Rattle.fields.proofs.AtPlaces.{field_at, fields-any}
 use Rattle.guards.specs.Guards.{contains_inflow}
 use Rattle.guards.specs.Members.{members_in, member_inflow}
 
@@ -86,31 +84,24 @@ nameless entry amount b e h t f r g = g ∙ rw f (every-expression (front entry)
 
 -- The members in the amount
 
-module _ (s table members : List ℕ) (count : ℕ) (l : Listed (places_of Member (walk 0 (front s))) table 0 members count) (k : length s ≤ 3 * length table) where
-  -- each takes three bytes at least, so a table with a number for each three bytes has room for all
-  members-few : 3 * length (places_of Member (walk 0 (front s))) ≤ length s
-  unfolding walk is_expression
-  members-few = go (whole s) refl
-    where
-      few : 3 * length (places_of Member (walk 0 (front s))) ≤ size (front s)
-      few = expression-few 0 (front s) Member
+-- each takes three bytes at least, so a table with a number for each three bytes has room for all
+members-few : (s : List ℕ) → 3 * length (places_of Member (walk 0 (front s))) ≤ length s
+unfolding walk is_expression
+members-few s = go (whole s) refl
+  where
+    few : 3 * length (places_of Member (walk 0 (front s))) ≤ size (front s)
+    few = expression-few 0 (front s) Member
 
-      go : (w : Bool) → whole s ≡ w → 3 * length (places_of Member (walk 0 (front s))) ≤ length s
-      go true w = omega (arith, few, front-size s w, leb-true (3 + length_of s) (length s) w)
-      go false w = rw (front-none s w) (omega arith)
+    go : (w : Bool) → whole s ≡ w → 3 * length (places_of Member (walk 0 (front s))) ≤ length s
+    go true w = omega (arith, few, front-size s w, leb-true (3 + length_of s) (length s) w)
+    go false w = rw (front-none s w) (omega arith)
 
-  enough : count ≤ length table
-  enough = omega (arith, l.count, members-few)
-
-  pub members-room : count ≤ length members
-  members-room = rw (l.kept, length-sets) enough
-
-  pub members-count : count ≡ length (take count members)
-  members-count = sym (length-take-le count members members-room)
-
-  pub members-read : length s ≤ 32768 → fields_at s (take count members) ≡ members_in (front s)
-  unfolding members_in fields_at
-  members-read h = rw (listed-front (places_of Member (walk 0 (front s))) table members count l enough) (expression-read s Member (omega arith))
+pub members-read : (s table : List ℕ) (last : Table ℕ) → Listed (places_of Member (walk 0 (front s))) table 0 last.items.now last.count →
+    length s ≤ 3 * length table → length s ≤ 32768 → (members : List ℕ) → members ≡ take last.count last.items.now → fields_at s members ≡ members_in (front s)
+unfolding members_in fields_at
+members-read s table last l k h members e =
+    rw (e, listed-front (places_of Member (walk 0 (front s))) table last.items.now last.count l (omega (arith, l.count, members-few s, k)))
+    (expression-read s Member (omega arith))
 
 -- so the members decide
 pub by_members : (entry amount : Field) (b : Bool) → b ≡ any (same_bytes []) (asset_params entry) → b ≡ false →
@@ -120,6 +111,6 @@ by_members entry amount b e f r g =
     g ∙ any-first (is_inflow entry) is_member (member-only entry (sym e ∙ f)) (without_places (walk 0 amount))
 
 pub members-any : (entry : Field) (s members : List ℕ) → fields_at s members ≡ members_in (front s) →
-    Seeking (field_at (is_inflow entry) s) members (length members) 0 (member_inflow entry (front s))
-unfolding member_inflow
-members-any entry s members e = rw (← e) (fields-any (is_inflow entry) s members)
+    any (λ n. is_inflow entry (front (drop n s))) members ≡ member_inflow entry (front s)
+unfolding member_inflow fields_at
+members-any entry s members e = sym (any-map (λ n. front (drop n s)) (is_inflow entry) members) ∙ ap (any (is_inflow entry)) e

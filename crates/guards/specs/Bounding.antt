@@ -1,8 +1,9 @@
 -- The guards of a row of fields that bound an amount.
-use Rattle.std.specs.Prelude.{Bool, cond, List, [], ◌∷◌, ℕ}
+use Rattle.std.specs.Prelude.{Bool, List, [], ◌∷◌, Option, Some, None}
 use Rattle.laws.specs.Lists.{filter}
 use Rattle.tags.specs.Tag.{Guard}
-use Rattle.fields.specs.Field.{Field, Fields, fields, whole, after, front, part, fields_from}
+use Rattle.fields.specs.Field.{Field, Fields, fields, after, front, part, fields_from}
+use Rattle.fields.specs.declared.field.Field.{Field as Found}
 use Rattle.equality.specs.Equality.{expr_eq}
 use Rattle.guards.specs.Guards.{guarded_amount}
 
@@ -14,6 +15,7 @@ bounds amount guard = expr_eq (guarded_amount (part 0 guard)) amount
 unfoldable pub bounding : Field → Fields → List Field
 bounding amount fs = filter (bounds amount) (fields_from Guard Guard fs)
 
--- the field at the front of s, which is one of them, and those behind it; none where no whole field stands there
-abbrev pub bounding_from : Field → List ℕ → List Field
-bounding_from amount s = cond (whole s) (front s ∷ bounding amount (fields (after s))) []
+-- a guard that was found, and those behind it; none where none was
+abbrev pub bounding_from : Field → Option Found → List Field
+bounding_from amount None = []
+bounding_from amount (Some g) = front g.part.now ∷ bounding amount (fields (after g.part.now))

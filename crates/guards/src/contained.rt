@@ -9,31 +9,24 @@ ghost use Rattle.guards.specs.Members.{members_in, member_inflow};
 
 use fields::bytes::skip;
 use fields::front::tag_of;
-use fields::table::number_at;
+use fields::named::Named;
+use fields::table::Table;
 use tags::{MEMBER, is_expression};
 use tokens::inflow::is_listed_inflow;
 use walking::parameters::{has_listed_asset, list_assets};
 use walking::walk::list_expression;
 
-// Two numbers for each of the asset parameters that question 11 allows.
-const ASSETS: usize = 128;
+// As many asset parameters as question 11 allows.
+const ASSETS: usize = 64;
 
 // Whether one of the members in the expression at the front of amount, all of which a table has, is an asset parameter's
 // `p.amount`. Another table has the asset parameters.
-fn has_inflow(entry: &[u8], assets: &[u16], count: usize, amount: &[u8], members: &[u16]) -> bool
-    requires assets { Assets entry.now assets.now count }
+fn has_inflow(entry: &[u8], assets: &Table<Named>, amount: &[u8], members: &[u16]) -> bool
+    requires assets { Assets entry.now assets.now }
     requires members { fields_at amount.now members.now ≡ members_in (front amount.now) }
     ensures { result ≡ member_inflow (front entry.now) (front amount.now) }
 {
-    let mut i = 0;
-    while i < members.len() {
-        let member = skip(amount, number_at(members, i));
-        if is_listed_inflow(entry, assets, count, member) {
-            return true;
-        }
-        i += 1;
-    }
-    false
+    members.iter().any(|&m| is_listed_inflow(entry, assets, skip(amount, usize::from(m))))
 }
 
 // Whether some asset parameter's `p.amount` stands in the expression at the front of amount. Only a member can be one, and the lent
@@ -45,11 +38,14 @@ pub fn contains_inflow(entry: &[u8], amount: &[u8], scratch: &mut [u16]) -> bool
     requires room { length amount.now ≤ 3 * length scratch.old }
     ensures { result ≡ contains_inflow (front entry.now) (front amount.now) }
 {
-    let mut assets = [0u16; ASSETS];
-    let listed = list_assets(entry, &mut assets);
-    if has_listed_asset(entry, &assets, listed, &entry[..0]) {
+    let mut named = [Named {
+        number: 0,
+        place: 0,
+    }; ASSETS];
+    let assets = list_assets(entry, &mut named);
+    if has_listed_asset(entry, &assets, &[]) {
         return is_expression(tag_of(amount));
     }
-    let count = list_expression(amount, MEMBER, scratch);
-    has_inflow(entry, &assets, listed, amount, &scratch[..count])
+    let members = list_expression(amount, MEMBER, scratch);
+    has_inflow(entry, &assets, amount, members.listed())
 }

@@ -1,80 +1,65 @@
 // SPDX-License-Identifier: Apache-2.0 OR MIT
 // A guard that says r >, >= amount or amount <, <= r. A guard's expression is the part of the file that starts with it.
-ghost use Rattle.std.specs.Prelude.{◌≡◌, ◌≤◌, ◌||◌, eqb, length};
-ghost use Rattle.tags.specs.Tag.{Gt, Ge, Lt, Le};
-ghost use Rattle.fields.specs.Field.{fields, front};
+ghost use Rattle.std.specs.Prelude.{◌≡◌, ◌≤◌, [], length, IfSome, MatchOption};
+ghost use Rattle.fields.specs.Field.{fields, front, nothing};
+ghost use Rattle.walking.specs.Walking.{peel, ident};
 ghost use Rattle.guards.specs.Guards.{guarded_field, guarded_amount};
 ghost use Rattle.guards.specs.Bounding.{bounds, bounding, bounding_from};
 
 use equality::expr_eq;
-use fields::front::{after_front, first_from, is_whole, part_of, tag_of};
+use fields::front::{part_of, tag_of};
+use fields::row::{Field, fields_at};
 use tags::{GE, GT, GUARD, LE, LT};
 use walking::peel::peel;
 use walking::shape::ident;
 
-// > and >= bound the right side by the left one.
-fn is_greater(tag: u8) -> bool
-    ensures { result ≡ eqb tag Gt || eqb tag Ge }
+// The two sides of the guard at the front of s, that of its state field and that of its amount: > and >= bound the right side by
+// the left one, and < and <= the left one by the right one.
+#[tactic(auto, unfolding(crate::specs::Guards::guarded_field, crate::specs::Guards::guarded_amount))]
+fn sides(s: &[u8]) -> Option<(&[u8], &[u8])>
+    ensures field { MatchOption result (guarded_field (front s.now) ≡ []) (λ p. guarded_field (front s.now) ≡ ident (peel (front p.0.now))) }
+    ensures amount { MatchOption result (guarded_amount (front s.now) ≡ nothing) (λ p. guarded_amount (front s.now) ≡ peel (front p.1.now)) }
 {
-    (tag == GT) | (tag == GE)
-}
-
-// < and <= bound the left side by the right one.
-fn is_less(tag: u8) -> bool
-    ensures { result ≡ eqb tag Lt || eqb tag Le }
-{
-    (tag == LT) | (tag == LE)
+    let guard = peel(s);
+    match tag_of(guard) {
+        GT | GE => Some((part_of(guard, 0), part_of(guard, 1))),
+        LT | LE => Some((part_of(guard, 1), part_of(guard, 0))),
+        _ => None,
+    }
 }
 
 // The r of the guard at the front of s; no bytes of any other expression.
 pub fn guarded_field(s: &[u8]) -> &[u8]
     ensures { result.now ≡ guarded_field (front s.now) }
 {
-    let g = peel(s);
-    let tag = tag_of(g);
-    if is_greater(tag) {
-        return ident(peel(part_of(g, 0)));
+    match sides(s) {
+        Some((field, _)) => ident(peel(field)),
+        None => &s[..0],
     }
-    if is_less(tag) {
-        return ident(peel(part_of(g, 1)));
-    }
-    &s[..0]
 }
 
 // Its amount, peeled; no field of any other expression.
 pub fn guarded_amount(s: &[u8]) -> &[u8]
     ensures { front result.now ≡ guarded_amount (front s.now) }
 {
-    let guard = peel(s);
-    let operator = tag_of(guard);
-    if is_greater(operator) {
-        return peel(part_of(guard, 1));
+    match sides(s) {
+        Some((_, amount)) => peel(amount),
+        None => &s[..0],
     }
-    if is_less(operator) {
-        return peel(part_of(guard, 0));
-    }
-    &s[..0]
 }
 
 // Whether the guard at the front of s bounds the amount.
+#[tactic(auto, unfolding(crate::specs::Bounding::bounds))]
 fn bounds(amount: &[u8], s: &[u8]) -> bool
     ensures { result ≡ bounds (front amount.now) (front s.now) }
 {
     expr_eq(guarded_amount(part_of(s, 0)), amount)
 }
 
-// s from its first guard on that bounds the amount; no whole field where there is none.
-pub fn first_guard<'a>(s: &'a [u8], amount: &[u8]) -> &'a [u8]
-    ensures found { bounding (front amount.now) (fields s.now) ≡ bounding_from (front amount.now) result.now }
-    ensures within { length result.now ≤ length s.now }
+// The first guard of s that bounds the amount.
+pub fn first_guard<'a>(s: &'a [u8], amount: &[u8]) -> Option<Field<'a>>
+    ensures found { bounding (front amount.now) (fields s.now) ≡ bounding_from (front amount.now) result }
+    ensures within { IfSome result (λ g. length g.part.now ≤ length s.now) }
 {
-    let mut t = first_from(s, GUARD, GUARD);
-    while is_whole(t) {
-        if bounds(amount, t) {
-            return t;
-        }
-        let u = first_from(after_front(t), GUARD, GUARD);
-        t = u;
-    }
-    t
+    fields_at(s, 0).find(|field| field.tag() == GUARD && bounds(amount, field.part))
 }

@@ -1,9 +1,11 @@
 // SPDX-License-Identifier: Apache-2.0 OR MIT
 // The assignments that lower a state field by an amount: those of an entry are listed once for a payout, and each guard that bounds
 // the amount is then compared with them by the name of its state field.
-ghost use Rattle.std.specs.Prelude.{◌≡◌, true, ◌≤◌, ◌+◌, ◌^◌, ◌<◌, length, get_or};
+ghost use Rattle.std.specs.Prelude.{◌≡◌, ◌≤◌, ◌+◌, ◌^◌, ◌<◌, length};
 ghost use Rattle.fields.specs.Field.{front};
+ghost use Rattle.fields.specs.Lists.{Lists};
 ghost use Rattle.fields.specs.Number.{short_number};
+ghost use Rattle.fields.specs.Row.{shown};
 ghost use Rattle.fields.specs.Table.{Listed};
 ghost use Rattle.walking.specs.Table.{placed_at};
 ghost use Rattle.guards.specs.Guards.{contains_wrapping, lowered_by};
@@ -11,9 +13,11 @@ ghost use Rattle.guards.specs.Lowerings.{target, is_lowering, lowering_at, lower
 
 use equality::expr_eq;
 use fields::bytes::{same_bytes, skip};
-use fields::front::{after_front, is_whole, length_of, part_of, parts_of, tag_of};
+use fields::front::{part_of, tag_of};
+use fields::named::Named;
 use fields::number::short_number;
-use fields::table::{note, wide};
+use fields::row::{Field, fields_at};
+use fields::table::{Table, empty_table};
 use raises::assignment::{sets_from, value_of};
 use tags::{SUB, SUBTRACT_FROM, WRAPPING, is_assign};
 use walking::peel::peel;
@@ -26,11 +30,11 @@ pub fn contains_wrapping(s: &[u8]) -> bool
     ensures { result ≡ contains_wrapping (front s.now) }
 {
     let mut table = [0u16; 1];
-    let count = list_expression(s, WRAPPING, &mut table);
-    1 <= count
+    1 <= list_expression(s, WRAPPING, &mut table).count
 }
 
 // What the statement at the front of s lowers the state field of that name by; no field where it does not.
+#[tactic(auto, unfolding(crate::specs::Guards::lowered_by))]
 pub fn lowered_by<'a>(name: &[u8], s: &'a [u8]) -> &'a [u8]
     ensures { front result.now ≡ lowered_by name.now (front s.now) }
 {
@@ -52,6 +56,7 @@ fn target(s: &[u8]) -> &[u8]
 
 // Whether the statement at the front of s lowers its own target by the amount. Most amounts differ at once, so Wrapping is looked
 // for last.
+#[tactic(auto, unfolding(crate::specs::Lowerings::is_lowering))]
 fn is_lowering(amount: &[u8], s: &[u8]) -> bool
     ensures { result ≡ is_lowering (front amount.now) (front s.now) }
 {
@@ -64,63 +69,58 @@ fn is_lowering(amount: &[u8], s: &[u8]) -> bool
     !contains_wrapping(part_of(s, 1))
 }
 
-// Writes the two numbers of the statement at the front of s, which stands at a place of the file, from n of the table on; nothing
-// where it does not lower its target by the amount.
-fn note_lowering(amount: &[u8], s: &[u8], at: usize, table: &mut [u16], n: usize) -> usize
-    requires { is_lowering (front amount.now) (front s.now) ≡ true → n + 2 < 2 ^ 64 }
-    ensures { Listed (lowering_at (front amount.now) (record { place = at; this = front s.now })) table.old n table.new result }
+// Lists a field, by the number of its target's name, where it is a statement that lowers its target by the amount.
+#[tactic(auto, unfolding(crate::specs::Lowerings::lowering_at))]
+fn list_lowering(amount: &[u8], field: &Field, lowerings: &mut Table<Named>)
+    requires place { field.now.place < 65536 }
+    requires room { lowerings.old.count + 1 < 2 ^ 64 }
+    ensures { Lists (lowering_at (front amount.now) (shown field.now)) lowerings.old lowerings.new }
 {
-    if !is_lowering(amount, s) {
-        return n;
+    if is_lowering(amount, field.part) {
+        lowerings.note(Named {
+            number: short_number(target(field.part)),
+            place: field.place as u16,
+        });
     }
-    let m = note(true, short_number(target(s)), table, n);
-    note(true, at % 65536, table, m)
 }
 
-// Lists what in the entry at a place of the file lowers a state field by the amount: two numbers each, that of its target's name
-// and its place. The answer is how many numbers there are.
-pub fn list_lowerings(file: &[u8], place: usize, amount: &[u8], table: &mut [u16]) -> usize
+// Lists what in the entry at a place of the file lowers a state field by the amount.
+pub fn list_lowerings<'t>(
+    file: &[u8],
+    place: usize,
+    amount: &[u8],
+    table: &'t mut [Named],
+) -> Table<'t, Named>
     requires { length file.now ≤ 32768 }
-    ensures { Listed (lowering_numbers (front amount.now) (placed_at file.now place)) table.old 0 table.new result }
+    ensures { Listed (lowering_numbers (front amount.now) (placed_at file.now place)) table.old 0 result.items.now result.count }
 {
-    let entry = skip(file, place);
-    if !is_whole(entry) {
-        return 0;
+    let mut lowerings = empty_table(table);
+    if let Some(entry) = fields_at(skip(file, place), place).next() {
+        for part in entry.parts() {
+            list_lowering(amount, &part, &mut lowerings);
+        }
     }
-    let mut t = parts_of(entry);
-    let mut at = place + 3;
-    let mut n = 0;
-    while is_whole(t) {
-        n = note_lowering(amount, t, at, table, n);
-        at += 3 + length_of(t);
-        let u = after_front(t);
-        t = u;
-    }
-    n
+    lowerings
 }
 
-// Whether the assignment whose two numbers stand at i of a table assigns to the name, where its number is the name's.
-fn has_target(file: &[u8], lowerings: &[u16], i: usize, name: &[u8]) -> bool
-    requires number { get_or lowerings.now i 0 ≡ short_number name.now }
-    requires inside { i + 1 < length lowerings.now }
-    ensures { result ≡ lowers_at file.now name.now (get_or lowerings.now i 0) (get_or lowerings.now (i + 1) 0) }
+// Whether what is listed assigns to the name, whose number is given. A name is read only where the number is equal.
+#[tactic(auto, unfolding(crate::specs::Lowerings::lowers_at))]
+fn has_target(file: &[u8], lowering: &Named, number: u16, name: &[u8]) -> bool
+    requires { number ≡ short_number name.now }
+    ensures { result ≡ lowers_at file.now name.now lowering.now }
 {
-    same_bytes(target(skip(file, wide(lowerings[i + 1]))), name)
+    if lowering.number != number {
+        return false;
+    }
+    same_bytes(target(skip(file, usize::from(lowering.place))), name)
 }
 
-// Whether one of the lowerings of a table lowers the state field of that name. A name is read only where the number is equal.
-pub fn is_lowered(file: &[u8], lowerings: &[u16], name: &[u8]) -> bool
+// Whether one of some lowerings lowers the state field of that name.
+pub fn is_lowered(file: &[u8], lowerings: &[Named], name: &[u8]) -> bool
     ensures { result ≡ lowered_in file.now name.now lowerings.now }
 {
     let number = short_number(name);
-    let mut i = 0;
-    while 1 < lowerings.len() - i {
-        if wide(lowerings[i]) == number {
-            if has_target(file, lowerings, i, name) {
-                return true;
-            }
-        }
-        i += 2;
-    }
-    false
+    lowerings
+        .iter()
+        .any(|lowering| has_target(file, lowering, number, name))
 }

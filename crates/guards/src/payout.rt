@@ -7,11 +7,11 @@ ghost use Rattle.guards.specs.Asked.{asked_token, paid_at, asked_amount};
 
 use fields::bytes::{same_bytes, skip};
 use fields::front::part_of;
-use fields::table::number_at;
 use walking::peel::peel;
 use walking::shape::{ident, method};
 
 // The token of the payout at the front of s: its first argument, peeled, if an identifier.
+#[tactic(auto, unfolding(crate::specs::Payouts::payout_token))]
 pub fn payout_token(s: &[u8]) -> &[u8]
     ensures { result.now ≡ payout_token (front s.now) }
 {
@@ -19,6 +19,7 @@ pub fn payout_token(s: &[u8]) -> &[u8]
 }
 
 // Its amount, unpeeled: its third argument, or the first one of the call of a member `split` that this is.
+#[tactic(auto, unfolding(crate::specs::Payouts::payout_amount))]
 pub fn payout_amount(s: &[u8]) -> &[u8]
     ensures reads { front result.now ≡ payout_amount (front s.now) }
     ensures within { length result.now ≤ length s.now }
@@ -32,13 +33,15 @@ pub fn payout_amount(s: &[u8]) -> &[u8]
 }
 
 // The token that the k-th payout of the table asks for.
+#[tactic(auto, unfolding(crate::specs::Asked::asked_token))]
 pub fn asked_token<'a>(file: &'a [u8], asked: &[u16], k: usize) -> &'a [u8]
     ensures { result.now ≡ asked_token file.now asked.now k }
 {
-    payout_token(skip(file, number_at(asked, k)))
+    payout_token(skip(file, usize::from(asked.get(k).copied().unwrap_or(0))))
 }
 
 // The amount, peeled, of the payout at a place of the file.
+#[tactic(auto, unfolding(crate::specs::Asked::paid_at))]
 pub fn amount_paid(file: &[u8], place: usize) -> &[u8]
     ensures reads { front result.now ≡ paid_at file.now place }
     ensures within { length result.now ≤ length file.now }
@@ -47,9 +50,10 @@ pub fn amount_paid(file: &[u8], place: usize) -> &[u8]
 }
 
 // That of the k-th payout of the table.
+#[tactic(auto, unfolding(crate::specs::Asked::asked_amount))]
 pub fn asked_amount<'a>(file: &'a [u8], asked: &[u16], k: usize) -> &'a [u8]
     ensures reads { front result.now ≡ asked_amount file.now asked.now k }
     ensures within { length result.now ≤ length file.now }
 {
-    amount_paid(file, number_at(asked, k))
+    amount_paid(file, usize::from(asked.get(k).copied().unwrap_or(0)))
 }

@@ -5,10 +5,7 @@ pub mod Lists
 pub mod Texts
 pub mod Slices
 pub mod Tables
-pub mod Seeking
-pub mod Testing
 pub mod Finding
 pub mod Counting
 pub mod Numbered
-pub mod Scanning
 pub mod Chosen

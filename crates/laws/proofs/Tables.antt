@@ -3,12 +3,12 @@ use Rattle.std.proofs.Common.{ℕ, zero, suc, ◌+◌, ◌≤◌, ◌<◌, ◌�
 use Rattle.std.proofs.Common.{get_or-set_same, get_or-set_other}
 use lib.Seq.{sets, set_out}
 
-pub sets-append : (ks js t : List ℕ) (n : ℕ) → sets (sets t n ks) (n + length ks) js ≡ sets t n (ks ++ js)
+pub sets-append : {X : Type 0} (ks js t : List X) (n : ℕ) → sets (sets t n ks) (n + length ks) js ≡ sets t n (ks ++ js)
 sets-append [] js t n = rw add-zero
 sets-append (k ∷ ks) js t n = rw (add-suc, ← suc-add) (sets-append ks js (set t n k) (suc n))
 
 -- past the end nothing is written
-pub sets-out : (ks t : List ℕ) (n : ℕ) → length t ≤ n → sets t n ks ≡ t
+pub sets-out : {X : Type 0} (ks t : List X) (n : ℕ) → length t ≤ n → sets t n ks ≡ t
 sets-out [] t n h = refl
 sets-out (k ∷ ks) t n h = rw (set_out t n k h) (sets-out ks t (suc n) (omega (arith, h)))
 

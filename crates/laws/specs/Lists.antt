@@ -1,6 +1,5 @@
 -- Tests of the elements of a list.
-use Rattle.std.specs.Prelude.{ℕ, zero, suc, Bool, true, false, ◌&&◌, ◌||◌, cond, List, [], ◌∷◌}
-
+use Rattle.std.specs.Prelude.{ℕ, zero, suc, Bool, cond, List, [], ◌∷◌}
 -- The library's words: whether some element passes a test, whether every element does, the elements that pass, and the
 -- first of them.
 pub use Rattle.std.specs.List.{list_any as any, list_all as all, filter, find}

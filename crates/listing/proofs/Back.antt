@@ -1,21 +1,24 @@
 -- A record is read back as it was written, since its numbers fit in their two bytes; so the text of a file's records is its listing.
-use Rattle.std.proofs.Common.{ℕ, zero, suc, ◌+◌, ◌*◌, ◌≤◌, ◌<◌, ◌≡◌, refl, sym, ap, ◌∙◌, List, [], ◌∷◌, ◌++◌, arith}
-use Rattle.std.proofs.Common.{append_assoc, append-nil, zero-add, length, drop, replicate, drop_at}
+use Rattle.std.proofs.Common.{ℕ, zero, suc, ◌+◌, ◌*◌, ◌/◌, ◌≤◌, ◌<◌, ◌≡◌, refl, sym, ap, ◌∙◌, List, [], ◌∷◌, ◌++◌, arith}
+use Rattle.std.proofs.Common.{subst, append_assoc, append-nil, zero-add, length, drop, replicate, drop_at}
 use mathlib.Core.List.{flat_map}
 use lib.ListN.{length-replicate}
-use lib.Seq.{sets-eq}
+use lib.Seq.{sets-eq, drop-nil}
 use Rattle.laws.specs.Lists.{numbered}
 use Rattle.fields.specs.Field.{Field, fields, nothing}
 use Rattle.model.specs.Model.{entries}
 use Rattle.questions.specs.Questions.{Asked, passes, fails, ask_file}
 use Rattle.claim.specs.Verdict.{Verdict, refused, rejected, accepted, entry_at, outcome, first_of, second_of, sheet, written, spare}
 use Rattle.output.specs.Output.{Written}
+use Rattle.output.specs.Writes.{Writes}
+use Rattle.output.specs.declared.Output.{Output}
 use Rattle.contract.specs.Records.{two_bytes, recorded, verdict_on, record_on, below}
 use Rattle.contract.specs.Each.{record_count, each_record, EachRecorded, records_enough}
 use Rattle.contract.specs.Reading.{size_of}
 use Rattle.contract.specs.declared.records.Recorded.{Recorded}
 use Rattle.contract.proofs.Enough.{Fitting, on-entry, entry-fits, file-fits, each-enough}
-use Rattle.contract.proofs.Reading.{first-read, second-read, size-read}
+use Rattle.contract.proofs.Reading.{first-read, second-read, size-read, covers-read}
+use Rattle.verdict.proofs.Running.{sheet-long}
 use Rattle.listing.specs.Listing.{refusal_line, accepted_line, rejected_line, cover_line, entry_lines, listing}
 use Rattle.listing.specs.Coded.{lines_of, text_of}
 use Rattle.listing.proofs.Covers.{all-covers}
@@ -38,11 +41,15 @@ module _ (n : ℕ) (entry : Field) (behind : List ℕ) where
   lines-back (refused k p) f = rw (first-read entry behind (refused k p) f, second-read entry behind (refused k p) f)
   lines-back (rejected k r) f = rw (first-read entry behind (rejected k r) f)
   lines-back (accepted cs) f =
+      let none : drop {A = ℕ} (3 * length cs) [] ≡ [] = drop-nil (3 * length cs) in
+      let many : length (sheet cs ++ []) / 3 ≡ length cs = rw (append-nil (sheet cs), sheet-long cs) (omega arith) in
       rw (
         first-read entry behind (accepted cs) f,
         second-read entry behind (accepted cs) f,
-        append_assoc (sheet cs) (drop (3 * length cs) []) behind,
-        all-covers cs (drop (3 * length cs) [] ++ behind),
+        covers-read entry behind (accepted cs) f,
+        none,
+        many,
+        all-covers cs [],
       )
 
   after-back : (v : Verdict) → Fitting entry v → drop (size_of (front v)) (front v) ≡ behind
@@ -98,18 +105,18 @@ module _ (file behind : List ℕ) where
       go (fails k p) e = rw (record_count, each_record, listing, e, lines-back 0 nothing behind (refused k p) (file-fits file k p e), append-nil (refusal_line k p))
       go passes e = rw (record_count, each_record, e) (all-text file e behind)
 
--- from the records as they were written, all of them
-module _ (file records : List ℕ) (r : Recorded) (before u : List ℕ) (m : ℕ) (w : Written (text_of r.count 0 records) before 0 u m) where
-  listing-text : (zeros : List ℕ) → EachRecorded file zeros records r → length (each_record file) ≤ length zeros → Written (listing file) before 0 u m
-  listing-text zeros i h =
-      let fits : 0 + length (each_record file) ≤ length zeros = omega (arith, h) in
-      let e : records ≡ each_record file ++ drop (0 + length (each_record file)) zeros = i.bytes.kept ∙ sets-eq (each_record file) zeros 0 fits in
-      rw (← each-text file (drop (0 + length (each_record file)) zeros), ← e, ← i.many) w
+-- from the records as they were written into a buffer for them
+module _ (file records : List ℕ) (r : Recorded) (room : ℕ) (i : EachRecorded file (replicate room 0) records r) where
+  -- where it has room for more, they are all there
+  pub listing-written : (r.end ≡ room → ⊥) → (a b : Output) → Writes (text_of r.count 0 records) a b → (before u : List ℕ) → a.buffer.now ≡ before → a.written ≡ 0 → b.buffer.now ≡ u →
+      Written (listing file) before 0 u b.written
+  listing-written z a b w before u e f g =
+      let long : length (replicate {A = ℕ} room 0) ≡ room = length-replicate {A = ℕ} room 0 in
+      let fits : 0 + length (each_record file) ≤ length (replicate {A = ℕ} room 0) = omega (arith, long, z, i.bytes.count) in
+      let all : records ≡ each_record file ++ drop (0 + length (each_record file)) (replicate room 0) = i.bytes.kept ∙ sets-eq (each_record file) (replicate room 0) 0 fits in
+      let same : text_of r.count 0 records ≡ listing file = rw (i.many, all) (each-text file (drop (0 + length (each_record file)) (replicate room 0))) in
+      subst (λ n. Written (listing file) before n u b.written) f (rw (← same, ← e, ← g) w.bytes)
 
-  -- into bytes that are enough for every file
-  pub listing-long : EachRecorded file (replicate records_enough 0) records r → Written (listing file) before 0 u m
-  listing-long i = listing-text (replicate records_enough 0) i (omega (arith, length-replicate {A = ℕ} records_enough 0, each-enough file))
-
-  -- or with room for more
-  pub listing-short : EachRecorded file (replicate 1024 0) records r → r.end < 1024 → Written (listing file) before 0 u m
-  listing-short i h = listing-text (replicate 1024 0) i (omega (arith, length-replicate {A = ℕ} 1024 0, h, i.bytes.count))
+  -- as it has with a byte more than every file's records take
+  pub room-left : records_enough < room → r.end ≡ room → ⊥
+  room-left h e = absurd (omega (arith, h, e, length-replicate {A = ℕ} room 0, i.bytes.count, each-enough file))

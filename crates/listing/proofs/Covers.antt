@@ -1,17 +1,20 @@
 -- The lines of an entry's covers by their bytes: kind and index are read back, and the lines are written one behind the other.
-use Rattle.std.proofs.Common.{ℕ, zero, suc, ◌+◌, ◌*◌, ◌≤◌, ◌<◌, ◌≡◌, refl, sym, ap, ◌∙◌, List, [], ◌∷◌, ◌++◌, arith, length, get_or, take, length-take, take_all, take-suc}
+use Rattle.std.specs.Simd.{first_chunks}
+use Rattle.claim.specs.Claim.{kind_at, index_at}
+use Rattle.std.proofs.Common.{ℕ, zero, suc, ◌+◌, ◌*◌, ◌/◌, drop, get_or-take, get_or-drop, ◌≤◌, ◌<◌, ◌≡◌, refl, sym, ap, ◌∙◌, List, [], ◌∷◌, ◌++◌, arith, length, get_or, take, length-take, take_all, take-suc}
 use mathlib.Core.List.{flat_map}
 use Rattle.laws.specs.Lists.{numbered}
 use Rattle.matching.specs.Matching.{Cover}
 use Rattle.matching.specs.Matching.Cover.{reserve}
 use Rattle.claim.specs.Verdict.{sheet}
 use Rattle.claim.proofs.Sheets.{kind-at, index-at}
-use Rattle.output.specs.Output.{Written}
-use Rattle.output.proofs.Buffer.{written_none, written-within, same-room, written_then}
+use Rattle.output.specs.Writes.{Writes}
+use Rattle.output.specs.declared.Output.{Output}
+use Rattle.output.proofs.Buffer.{writes-none, writes_then}
 use Rattle.contract.specs.Records.{below}
 use Rattle.contract.proofs.Below.{each-then}
-use Rattle.listing.specs.Decimal.{three_of}
-use Rattle.listing.specs.Listing.{cover_line}
+use Rattle.listing.specs.Decimal.{decimal}
+use Rattle.listing.specs.Listing.{line, cover_line}
 use Rattle.listing.specs.Coded.{cover_line_at}
 
 -- one more at the end has the next number
@@ -43,34 +46,32 @@ module _ (cs : List Cover) (rest : List ℕ) where
   pub all-covers : flat_map (cover_line_at covers) (below (length cs)) ≡ flat_map cover_line (numbered 0 cs)
   all-covers = first-covers (length cs) (omega arith) ∙ rw (take_all (length cs) cs (omega arith))
 
-pub cover-lined : (covers : List ℕ) (k kind high low : ℕ) → kind ≡ get_or covers (3 * k) 0 → high ≡ get_or covers (3 * k + 1) 0 → low ≡ get_or covers (3 * k + 2) 0 →
-    (t : List ℕ) (at : ℕ) (u : List ℕ) (r : ℕ) → Written (three_of (0x70 ∷ 0x20 ∷ []) k (0x20 ∷ []) kind (high * 256 + low)) t at u r → Written (cover_line_at covers k) t at u r
-unfolding cover_line_at
-cover-lined covers k kind high low e f g t at u r w = rw (← e, ← f, ← g) w
+-- three bytes each
+chunk-read : (m : ℕ) (s : List ℕ) (k i : ℕ) → k < m → i < 3 → get_or (get_or (first_chunks 3 m s) k []) i 0 ≡ get_or s (3 * k + i) 0
+chunk-read zero s k i h g = absurd (omega (arith, h))
+chunk-read (suc m) s zero i h g = get_or-take 3 s i 0 g ∙ ap (λ j. get_or s j 0) (omega arith)
+chunk-read (suc m) s (suc k) i h g =
+    chunk-read m (drop 3 s) k i (omega (arith, h)) g ∙ get_or-drop 3 s (3 * k + i) 0 ∙ ap (λ j. get_or s j 0) (omega arith)
 
--- those before the k-th are written
-pub record Listed (covers : List ℕ) (count : ℕ) (t : List ℕ) (at : ℕ) (u : List ℕ) (k m : ℕ) : Type 0 where
-  pub reached : k ≤ count
-  pub room : m ≤ length u
-  pub same : length u ≡ length t
-  pub lines : Written (flat_map (cover_line_at covers) (below k)) t at u m
-
-module _ (covers : List ℕ) (count : ℕ) (t : List ℕ) (at : ℕ) where
-  pub listed-none : at ≤ length t → Listed covers count t at t 0 at
+module _ (covers : List ℕ) (start : Output) where
+  pub covers-none : Writes (flat_map (cover_line_at covers) (below 0)) start start
   unfolding below flat_map
-  listed-none h = record { reached = omega arith; room = h; same = refl; lines = written_none t at h }
+  covers-none = writes-none start
 
-  module _ (u : List ℕ) (k m : ℕ) (w : Listed covers count t at u k m) where
-    pub listed-on : k < count → (v : List ℕ) (r : ℕ) → Written (cover_line_at covers k) u m v r → Listed covers count t at v (k + 1) r
-    unfolding below
-    listed-on h v r q =
-        let one : k + 1 ≡ suc k = omega arith in
-        record {
-          reached = omega (arith, h);
-          room = written-within (cover_line_at covers k) u m v r q;
-          same = omega (arith, w.same, same-room (cover_line_at covers k) u m v r q);
-          lines = rw (one, each-then (cover_line_at covers) (below k) k) (written_then (flat_map (cover_line_at covers) (below k)) t at u m w.lines (cover_line_at covers k) v r q);
-        }
-
-    pub listed-all : count ≤ k → Written (flat_map (cover_line_at covers) (below count)) t at u m
-    listed-all h = let e : k ≡ count = omega (arith, h, w.reached) in rw e at w.lines
+  -- one cover more is written, whose bytes are the three of its chunk
+  pub covers-on : (k : ℕ) (before : Output) → Writes (flat_map (cover_line_at covers) (below k)) start before →
+      (chunks : List (List ℕ)) → chunks ≡ first_chunks 3 (length covers / 3) covers → length chunks ≡ length covers / 3 → k < length chunks →
+      (kind index : ℕ) → kind ≡ get_or (get_or chunks k []) 0 0 → index ≡ get_or (get_or chunks k []) 1 0 * 256 + get_or (get_or chunks k []) 2 0 →
+      (after : Output) → Writes (line (0x70 ∷ []) (decimal k ∷ decimal kind ∷ decimal index ∷ [])) before after →
+      Writes (flat_map (cover_line_at covers) (below (k + 1))) start after
+  unfolding below cover_line_at
+  covers-on k before p chunks e f h kind index g i after w =
+      let inside : k < length covers / 3 = omega (arith, h, f) in
+      let at : (j : ℕ) → j < 3 → get_or (get_or chunks k []) j 0 ≡ get_or covers (3 * k + j) 0 = λ j l. rw e (chunk-read (length covers / 3) covers k j inside l) in
+      let first : 3 * k + 0 ≡ 3 * k = omega arith in
+      let one : k + 1 ≡ suc k = omega arith in
+      let the-kind : kind ≡ kind_at covers k = g ∙ at 0 (omega arith) ∙ ap (λ j. get_or covers j 0) first in
+      let the-index : index ≡ index_at covers k = i ∙ rw (at 1 (omega arith), at 2 (omega arith)) in
+      let same : cover_line_at covers k ≡ line (0x70 ∷ []) (decimal k ∷ decimal kind ∷ decimal index ∷ []) = rw (the-kind, the-index) in
+      rw (one, each-then (cover_line_at covers) (below k) k, same)
+      (writes_then start (flat_map (cover_line_at covers) (below k)) (line (0x70 ∷ []) (decimal k ∷ decimal kind ∷ decimal index ∷ [])) before after p w)

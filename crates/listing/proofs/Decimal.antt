@@ -1,8 +1,10 @@
 -- Decimal digits: those of a tenth of the number, and the last one.
-use Rattle.std.proofs.Common.{ℕ, zero, suc, ◌+◌, ◌/◌, ◌%◌, ◌<◌, ◌≤◌, ◌≡◌, refl, sym, ap, ◌∙◌, Bool, true, false, List, [], ◌∷◌, ◌++◌, arith, ltb-true, ltb-false, lt-ltb, le-ltb, ltb}
-use Rattle.output.specs.Output.{Written}
+use Rattle.std.proofs.Common.{ℕ, zero, suc, ◌+◌, ◌/◌, ◌%◌, ◌^◌, ◌<◌, ◌≤◌, ◌≡◌, refl, sym, ap, ◌∙◌, add-one, Bool, true, false, List, [], ◌∷◌, ◌++◌, arith, ltb-true, ltb-false, lt-ltb, le-ltb, ltb}
+use Rattle.std.specs.Fmt as library
+use Rattle.std.proofs.lemmas.Fmt.{decimal_from_appends, length-decimal-le_succ}
+use Rattle.output.specs.Writes.{Writes}
+use Rattle.output.specs.declared.Output.{Output}
 use Rattle.listing.specs.Decimal.{digits, decimal}
-use Rattle.output.proofs.Buffer.{written_then}
 
 module _ (k n : ℕ) where
   digits-one : n < 10 → digits (suc k) n ≡ (0x30 + n) ∷ []
@@ -34,12 +36,14 @@ module _ (n : ℕ) where
   unfolding decimal
   more-digits h = digits_more n n h ∙ ap (λ ds. ds ++ (0x30 + n % 10) ∷ []) (enough n (suc (n / 10)) (n / 10) (omega (arith, h)) (omega arith))
 
-  module _ (t : List ℕ) (k : ℕ) (d : ℕ) (e : d ≡ 0x30 + n % 10) (v : List ℕ) (r : ℕ) where
-    pub number-one : n < 10 → Written (d ∷ []) t k v r → Written (decimal n) t k v r
-    number-one h w = rw (one-digit h, ← e) w
+-- the library's digits are these
+same-decimal : (n : ℕ) → n < 2 ^ 64 → decimal n ≡ library.decimal n
+unfolding decimal
+same-decimal n h = decimal_from_appends digits (record { one = digits-one; more = digits_more }) (suc n) n h (rw add-one at (length-decimal-le_succ n h))
 
-    pub number_more : 10 ≤ n → (q : ℕ) → q ≡ n / 10 → (u : List ℕ) (m : ℕ) → Written (decimal q) t k u m → Written (d ∷ []) u m v r → Written (decimal n) t k v r
-    number_more h q f u m w x = rw (more-digits h, ← e, ← f) (written_then (decimal q) t k u m w (d ∷ []) v r x)
+pub number-written : (n : ℕ) → n < 2 ^ 64 → (text : List ℕ) → text ≡ library.decimal n → (a b : Output) → Writes text a b → Writes (decimal n) a b
+number-written n h text e a b w = rw (same-decimal n h, ← e) w
 
-  pub tenth-less : 10 ≤ n → (t : ℕ) → n ≡ t → n / 10 < t
-  tenth-less h t e = omega (arith, h, e)
+pub digit-written : (n : ℕ) → n < 10 → (a b : Output) → Writes ((0x30 + n) ∷ []) a b → Writes (decimal n) a b
+unfolding decimal
+digit-written n h a b w = rw (digits-one n n h) w

@@ -1,22 +1,42 @@
--- The pieces of a line, written one behind the other, are the line.
-use Rattle.std.proofs.Common.{ℕ, List, [], ◌∷◌, ◌++◌, append_assoc}
-use Rattle.output.specs.Output.{Written}
-use Rattle.listing.specs.Decimal.{decimal, two_of, three_of}
-use Rattle.output.proofs.Buffer.{written_then}
+-- Words, with a space in front of each, are written one behind the other, and then a line feed: that is the line.
+use Rattle.std.proofs.Common.{ℕ, ◌+◌, ◌≤◌, ◌<◌, ◌≡◌, refl, sym, ap, ◌∙◌, List, [], ◌∷◌, ◌++◌, map, append_assoc, append-nil, add-one, length, get_or, take, take_all, take-suc}
+use mathlib.Core.List.{flat_map}
+use Rattle.output.specs.Writes.{Writes}
+use Rattle.output.specs.declared.Output.{Output}
+use Rattle.output.proofs.Buffer.{writes_then}
+use Rattle.contract.proofs.Below.{each-then}
+use Rattle.listing.specs.Listing.{line}
+use Rattle.listing.specs.Words.{bytes_of}
+use Rattle.listing.specs.declared.text.Word.{Word}
 
--- in front of what was written then stands what was written first, a text and a number
-both-then : (x : List ℕ) (i : ℕ) (ys t : List ℕ) (n : ℕ) (u : List ℕ) (m : ℕ) (v : List ℕ) (r : ℕ) →
-    Written (x ++ decimal i) t n u m → Written ys u m v r → Written (x ++ (decimal i ++ ys)) t n v r
-both-then x i ys t n u m v r p q = rw (← append_assoc x (decimal i) ys) (written_then (x ++ decimal i) t n u m p ys v r q)
+-- a word with a space in front of it
+abbrev spaced : Word → List ℕ
+spaced w = 0x20 ∷ bytes_of w
 
-module _ (a : List ℕ) (i : ℕ) (b : List ℕ) (j : ℕ) (t : List ℕ) (n : ℕ) (u : List ℕ) (m : ℕ) (v : List ℕ) (k : ℕ)
-    (p : Written (a ++ decimal i) t n u m) (q : Written (b ++ decimal j) u m v k) where
-  pub two-written : (w : List ℕ) (r : ℕ) → Written (0x0A ∷ []) v k w r → Written (two_of a i b j) t n w r
-  two-written w r x =
-      both-then a i (b ++ (decimal j ++ 0x0A ∷ [])) t n u m w r p (both-then b j (0x0A ∷ []) u m v k w r q x)
+line-spaced : (text : List ℕ) (words : List Word) → line text (map bytes_of words) ≡ text ++ (flat_map spaced words ++ 0x0A ∷ [])
+unfolding flat_map
+line-spaced text [] = refl
+line-spaced text (w ∷ ws) = ap (λ l. text ++ 0x20 ∷ l) (line-spaced (bytes_of w) ws ∙ sym (append_assoc (bytes_of w) (flat_map spaced ws) (0x0A ∷ [])))
 
-  pub three-written : (last : ℕ) (w : List ℕ) (l : ℕ) (z : List ℕ) (r : ℕ) → Written ((0x20 ∷ []) ++ decimal last) v k w l →
-      Written (0x0A ∷ []) w l z r → Written (three_of a i b j last) t n z r
-  three-written last w l z r x y =
-      both-then a i (b ++ (decimal j ++ 0x20 ∷ (decimal last ++ 0x0A ∷ []))) t n u m z r p
-      (both-then b j (0x20 ∷ (decimal last ++ 0x0A ∷ [])) u m v k z r q (both-then (0x20 ∷ []) last (0x0A ∷ []) v k w l z r x y))
+-- the text and the first words, as many as are counted, are written
+pub record Lining (text : List ℕ) (words : List Word) (start output : Output) (count : ℕ) : Type 0 where
+  pub so_far : Writes (text ++ flat_map spaced (take count words)) start output
+
+module _ (text : List ℕ) (words : List Word) (start output : Output) where
+  pub lining-none : Writes text start output → Lining text words start output 0
+  unfolding flat_map
+  lining-none w = record { so_far = rw append-nil w }
+
+  module _ (i : ℕ) (l : Lining text words start output i) where
+    pub lining-on : i < length words → (word : Word) → word ≡ get_or words i word → (a b : Output) → Writes (0x20 ∷ []) output a → Writes (bytes_of word) a b →
+        Lining text words start b (i + 1)
+    lining-on h word e a b p q =
+        record {
+          so_far = rw (add-one i, take-suc words i word h, ← e, each-then spaced (take i words) word, ← append_assoc text (flat_map spaced (take i words)) (spaced word))
+              (writes_then start (text ++ flat_map spaced (take i words)) (spaced word) output b l.so_far (writes_then output (0x20 ∷ []) (bytes_of word) a b p q));
+        }
+
+    pub lining-all : length words ≤ i → (end : Output) → Writes (0x0A ∷ []) output end → Writes (line text (map bytes_of words)) start end
+    lining-all h end w =
+        rw (line-spaced text words, ← append_assoc text (flat_map spaced words) (0x0A ∷ []))
+        (writes_then start (text ++ flat_map spaced words) (0x0A ∷ []) output end (rw (take_all i words h) at l.so_far) w)

@@ -1,69 +1,90 @@
--- The lines of a record go by what it is; those of the records from the n-th on are what is left to write.
-use Rattle.std.proofs.Common.{ℕ, suc, ◌+◌, ◌-◌, ◌*◌, ◌≤◌, ◌<◌, ◌≡◌, refl, List, [], ◌∷◌, arith, eq-eqb, ne_eqb, length, get_or, drop}
+-- What is read off a record, its lines, and the records one after the other.
+use Rattle.std.specs.List.{enumerate_from}
+use Rattle.std.proofs.Common.{ℕ, zero, suc, ◌+◌, ◌*◌, ◌/◌, ◌<◌, ◌≡◌, refl, ap, List, [], ◌∷◌, arith, add-one, eq-eqb, ne_eqb, length, get_or, take, drop, take_all, take-suc}
 use mathlib.Core.List.{flat_map}
-use Rattle.output.specs.Output.{Written}
-use Rattle.output.proofs.Buffer.{written_none, written-within, same-room, written_then}
+use Rattle.output.specs.Writes.{Writes}
+use Rattle.output.specs.declared.Output.{Output}
+use Rattle.output.proofs.Buffer.{writes-none, writes_then}
 use Rattle.contract.specs.Records.{below}
-use Rattle.contract.specs.Reading.{front_number, size_of}
-use Rattle.listing.specs.Decimal.{two_of, three_of}
-use Rattle.listing.specs.Listing.{refusal_line, accepted_line, rejected_line}
+use Rattle.contract.specs.Reading.{outcome_in, first_in, second_in, size_of, covers_in}
+use Rattle.contract.proofs.Below.{each-then}
+use Rattle.listing.specs.Decimal.{decimal}
+use Rattle.listing.specs.Listing.{line, refusal_line, accepted_line, rejected_line}
 use Rattle.listing.specs.Coded.{cover_line_at, lines_of, text_of}
+use Rattle.listing.specs.Reading.{first_records}
 
-module _ (s : List ℕ) (what : ℕ) (e : what ≡ get_or s 0 0) where
+module _ (s : List ℕ) (what : ℕ) (e : what ≡ outcome_in s) where
   pub size-alone : (what ≡ 0 → ⊥) → 5 ≡ size_of s
   unfolding size_of
   size-alone z = rw (← e, ne_eqb what 0 z)
 
-  module _ (a : List ℕ) (f : a ≡ drop 1 s) (first : ℕ) (g : first ≡ front_number a) where
-    pub size-covers : what ≡ 0 → 5 + 3 * first ≡ size_of s
-    unfolding size_of
-    size-covers z = rw (← e, eq-eqb what 0 z, ← f, ← g)
+  pub size-covers : what ≡ 0 → (first : ℕ) → first ≡ first_in s → (wide : ℕ) → wide ≡ first → 5 + 3 * wide ≡ size_of s
+  unfolding size_of
+  size-covers z first f wide g = rw (← e, eq-eqb what 0 z, ← f, g)
 
-    module _ (n : ℕ) (t : List ℕ) (at : ℕ) (u : List ℕ) (r : ℕ) where
-      pub lines-rejected : (what ≡ 2 → ⊥) → what ≡ 1 → Written (two_of (0x65 ∷ 0x20 ∷ []) n (0x20 ∷ 0x6E ∷ 0x6F ∷ 0x20 ∷ []) first) t at u r →
-          Written (lines_of n s) t at u r
-      unfolding lines_of rejected_line
-      lines-rejected y z w = rw (← e, ne_eqb what 2 y, eq-eqb what 1 z, ← f, ← g) w
+-- the lines go by what the record is
+module _ (n : ℕ) (s : List ℕ) (what : ℕ) (e : what ≡ outcome_in s) (first : ℕ) (f : first ≡ first_in s) (a b : Output) where
+  pub lines-rejected : (what ≡ 2 → ⊥) → what ≡ 1 → Writes (line (0x65 ∷ []) (decimal n ∷ (0x6E ∷ 0x6F ∷ []) ∷ decimal first ∷ [])) a b → Writes (lines_of n s) a b
+  unfolding lines_of rejected_line
+  lines-rejected y z w = rw (← e, ne_eqb what 2 y, eq-eqb what 1 z, ← f) w
 
-      module _ (b : List ℕ) (h : b ≡ drop 3 s) (second : ℕ) (k : second ≡ front_number b) where
-        pub lines-refused : what ≡ 2 → Written (two_of (0x72 ∷ 0x20 ∷ []) first (0x20 ∷ []) second) t at u r → Written (lines_of n s) t at u r
-        unfolding lines_of refusal_line
-        lines-refused z w = rw (← e, eq-eqb what 2 z, ← f, ← g, ← h, ← k) w
+  module _ (second : ℕ) (g : second ≡ second_in s) where
+    pub lines-refused : what ≡ 2 → Writes (line (0x72 ∷ []) (decimal first ∷ decimal second ∷ [])) a b → Writes (lines_of n s) a b
+    unfolding lines_of refusal_line
+    lines-refused z w = rw (← e, eq-eqb what 2 z, ← f, ← g) w
 
-        pub lines-accepted : (what ≡ 2 → ⊥) → (what ≡ 1 → ⊥) → Written (three_of (0x65 ∷ 0x20 ∷ []) n (0x20 ∷ 0x6F ∷ 0x6B ∷ 0x20 ∷ []) first second) t at u r →
-            (c : List ℕ) → c ≡ drop 5 s → (v : List ℕ) (m : ℕ) → Written (flat_map (cover_line_at c) (below first)) u r v m → Written (lines_of n s) t at v m
-        unfolding lines_of accepted_line
-        lines-accepted y z w c l v m x =
-            rw (← e, ne_eqb what 2 y, ne_eqb what 1 z, ← f, ← g, ← h, ← k, ← l)
-            (written_then (accepted_line n first second) t at u r w (flat_map (cover_line_at c) (below first)) v m x)
+    pub lines-accepted : (what ≡ 2 → ⊥) → (what ≡ 1 → ⊥) → Writes (line (0x65 ∷ []) (decimal n ∷ (0x6F ∷ 0x6B ∷ []) ∷ decimal first ∷ decimal second ∷ [])) a b →
+        (covers : List ℕ) → covers ≡ covers_in s → (c : Output) → Writes (flat_map (cover_line_at covers) (below (length covers / 3))) b c → Writes (lines_of n s) a c
+    unfolding lines_of accepted_line
+    lines-accepted y z w covers k c x =
+        rw (← e, ne_eqb what 2 y, ne_eqb what 1 z, ← f, ← g, ← k)
+        (writes_then a (accepted_line n first second) (flat_map (cover_line_at covers) (below (length covers / 3))) b c w x)
 
--- the records before the n-th are read, and whoever writes the lines of the rest has written all
-pub record Reading (count : ℕ) (records before buffer rest : List ℕ) (n at : ℕ) : Type 0 where
-  pub within : n ≤ count
-  pub room : at ≤ length buffer
-  pub same : length buffer ≡ length before
-  pub left : (v : List ℕ) (r : ℕ) → Written (text_of (count - n) n rest) buffer at v r → Written (text_of count 0 records) before 0 v r
+-- Records one after the other
 
-module _ (count : ℕ) (records before : List ℕ) where
-  pub reading-none : Reading count records before before records 0 0
-  reading-none =
-      let all : count - 0 ≡ count = omega arith in
-      record { within = omega arith; room = omega arith; same = refl; left = λ v r p. rw all at p }
+module _ (s : List ℕ) (n : ℕ) where
+  pub records-end : n < 1 → first_records n s ≡ []
+  unfolding first_records
+  records-end h = let e : n ≡ 0 = omega (arith, h) in rw e
 
-  module _ (buffer rest : List ℕ) (n at : ℕ) (i : Reading count records before buffer rest n at) where
-    pub reading-on : n < count → (u : List ℕ) (m : ℕ) → Written (lines_of n rest) buffer at u m →
-        (k : ℕ) → k ≡ size_of rest → (next : List ℕ) → next ≡ drop k rest → Reading count records before u next (n + 1) m
-    unfolding text_of
-    reading-on h u m w k e next f =
-        let one : n + 1 ≡ suc n = omega arith in
-        let more : count - n ≡ suc (count - (n + 1)) = omega (arith, h) in
+  pub records-next : (k : ℕ) → n ≡ k + 1 → (size : ℕ) → size ≡ size_of s → (rest : List ℕ) → rest ≡ drop size s → first_records n s ≡ s ∷ first_records k rest
+  unfolding first_records
+  records-next k e size f rest g = rw (e, add-one k, g, f)
+
+pub records-count : (n : ℕ) (s : List ℕ) → length (first_records n s) ≡ n
+unfolding first_records
+records-count zero s = refl
+records-count (suc n) s = ap suc (records-count n (drop (size_of s) s))
+
+-- each with its number
+abbrev pub numbered_lines : ℕ × List ℕ → List ℕ
+numbered_lines p = lines_of p.0 p.1
+
+all-lines : (count n : ℕ) (s : List ℕ) → text_of count n s ≡ flat_map numbered_lines (enumerate_from n (first_records count s))
+unfolding text_of first_records flat_map
+all-lines zero n s = refl
+all-lines (suc count) n s = rw (all-lines count (suc n) (drop (size_of s) s), add-one n)
+
+-- of the first ones, as many as are counted, they are written
+pub record Lined (count : ℕ) (s : List ℕ) (start output : Output) (n : ℕ) : Type 0 where
+  pub so_far : Writes (flat_map numbered_lines (take n (enumerate_from 0 (first_records count s)))) start output
+
+module _ (count : ℕ) (s : List ℕ) (start : Output) where
+  pub lined-none : Lined count s start start 0
+  unfolding flat_map
+  lined-none = record { so_far = writes-none start }
+
+  abbrev all : List (ℕ × List ℕ)
+  all = enumerate_from 0 (first_records count s)
+
+  module _ (n : ℕ) (output : Output) (l : Lined count s start output n) where
+    pub lined-on : (number : ℕ) (front : List ℕ) → (n < length all) × ((number, front) ≡ get_or all n (number, front)) → (after : Output) → Writes (lines_of number front) output after →
+        Lined count s start after (n + 1)
+    lined-on number front h after w =
         record {
-          within = omega (arith, h);
-          room = written-within (lines_of n rest) buffer at u m w;
-          same = omega (arith, i.same, same-room (lines_of n rest) buffer at u m w);
-          left = λ v r q. i.left v r (rw (more, ← e, ← f, ← one) (written_then (lines_of n rest) buffer at u m w (text_of (count - (n + 1)) (n + 1) next) v r q));
+          so_far = rw (add-one n, take-suc all n (number, front) h.0, ← h.1, each-then numbered_lines (take n all) (number, front))
+              (writes_then start (flat_map numbered_lines (take n all)) (lines_of number front) output after l.so_far w);
         }
 
-    pub reading-all : count ≤ n → Written (text_of count 0 records) before 0 buffer at
-    unfolding text_of
-    reading-all h = let none : count - n ≡ 0 = omega (arith, h) in i.left buffer at (rw none (written_none buffer at i.room))
+    pub lined-all : n ≡ length all → Writes (text_of count 0 s) start output
+    lined-all h = rw (all-lines count 0 s) (rw (take_all n all (omega (arith, h))) at l.so_far)

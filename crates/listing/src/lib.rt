@@ -2,4 +2,5 @@
 #![tactic(auto)]
 
 pub mod lines;
+mod records;
 pub mod text;

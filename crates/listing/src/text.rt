@@ -1,57 +1,53 @@
-// Texts and numbers in decimal digits, written one behind the other into a lent buffer.
-ghost use Rattle.std.specs.Prelude.{◌++◌, ◌≤◌, length};
-ghost use Rattle.output.specs.Output.{Written};
-ghost use Rattle.listing.specs.Decimal.{decimal, two_of, three_of};
+// Lines: texts and numbers in decimal digits, written one behind the other.
+ghost use Rattle.std.specs.Prelude.{map};
+ghost use Rattle.output.specs.Writes.{Writes};
+ghost use Rattle.listing.specs.Decimal.{decimal};
+ghost use Rattle.listing.specs.Listing.{line};
+ghost use Rattle.listing.specs.Words.{bytes_of};
 
-use output::{write_byte, write_text};
+use itoa::Buffer;
+use output::Output;
 
-// Writes a number in decimal digits. A call for each digit: there are 20 at most.
-pub fn write_number(number: usize, buffer: &mut [u8], n: usize) -> usize
-    requires { n ≤ length buffer.old }
-    ensures { Written (decimal number) buffer.old n buffer.new result }
+// A word of a line.
+#[derive(Clone, Copy)]
+pub enum Word<'a> {
+    Text(&'a [u8]),
+    Number(usize),
+}
+
+// Writes a number in decimal digits. Most numbers have one, which needs no buffer: with the library's digits for those too, the
+// listing took more time. `write!` would not do, since by its contract it may fail, and then anything may be written.
+pub fn write_number(number: usize, output: &mut Output)
+    ensures { Writes (decimal number) output.old output.new }
 {
-    let digit = 48 + (number % 10) as u8;
     if number < 10 {
-        return write_byte(digit, buffer, n);
+        output.write_byte(b'0' + number as u8);
+        return;
     }
-    let m = write_number(number / 10, buffer, n);
-    write_byte(digit, buffer, m)
+    let mut digits = Buffer::new();
+    output.write_text(digits.format(number).as_bytes());
 }
 
-// Writes a text and then a number.
-fn write_both(text: &[u8], number: usize, buffer: &mut [u8], n: usize) -> usize
-    requires { n ≤ length buffer.old }
-    ensures { Written (text.now ++ decimal number) buffer.old n buffer.new result }
+// Writes a word. In the place of the call it is known which case it is.
+#[inline(always)]
+fn write_word(word: Word, output: &mut Output)
+    ensures { Writes (bytes_of word.entry) output.old output.new }
 {
-    let m = write_text(text, buffer, n);
-    write_number(number, buffer, m)
+    match word {
+        Word::Text(text) => output.write_text(text),
+        Word::Number(number) => write_number(number, output),
+    }
 }
 
-// Writes a line of two texts with a number behind each.
-pub fn write_two(a: &[u8], i: usize, b: &[u8], j: usize, buffer: &mut [u8], n: usize) -> usize
-    requires { n ≤ length buffer.old }
-    ensures { Written (two_of a.now i b.now j) buffer.old n buffer.new result }
+// Writes a line: a text, and words with a space in front of each. In the place of the call the words are known.
+#[inline(always)]
+pub fn write_line(text: &[u8], words: &[Word], output: &mut Output)
+    ensures { Writes (line text.now (map bytes_of words.now)) output.old output.new }
 {
-    let m = write_both(a, i, buffer, n);
-    let k = write_both(b, j, buffer, m);
-    write_byte(b'\n', buffer, k)
-}
-
-// Writes a line of three, the third behind a space.
-pub fn write_three(
-    a: &[u8],
-    i: usize,
-    b: &[u8],
-    j: usize,
-    last: usize,
-    buffer: &mut [u8],
-    n: usize,
-) -> usize
-    requires { n ≤ length buffer.old }
-    ensures { Written (three_of a.now i b.now j last) buffer.old n buffer.new result }
-{
-    let m = write_both(a, i, buffer, n);
-    let k = write_both(b, j, buffer, m);
-    let l = write_both(b" ", last, buffer, k);
-    write_byte(b'\n', buffer, l)
+    output.write_text(text);
+    for &word in words {
+        output.write_byte(b' ');
+        write_word(word, output);
+    }
+    output.write_byte(b'\n');
 }

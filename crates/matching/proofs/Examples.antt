@@ -2,7 +2,7 @@
 use Rattle.std.proofs.Common.{ℕ, ◌≡◌, refl, List, [], ◌∷◌, ◌++◌, map}
 use Prim.Native.String.{String}
 use mathlib.Core.List.{flat_map}
-use Rattle.laws.specs.Lists.{any, all, filter, find, remove_first, position, numbered}
+use Rattle.laws.specs.Lists.{remove_first, position, numbered}
 use Rattle.laws.specs.Texts.{same_bytes, known}
 use Rattle.tags.specs.Tag.{State, Entry, Parameter, Guard, AddTo, SubtractFrom, ExpressionStatement, InAsset, Caller, Date, Member, Call, Checked, Wrapping, Eq, Ge, Sub, Mul, Div, composite}
 use Rattle.tags.specs.Tag.{is_expression, is_statement, is_wrapper, is_assign}

@@ -1,7 +1,8 @@
 -- The answer for a payout, with the marks after it: each way that the definition goes, the code's answer is the same with the
 -- marks in any order, and the marks that the code hands back stand for the definition's.
-use Rattle.std.proofs.Common.{ℕ, ◌+◌, ◌-◌, ◌≤◌, ◌<◌, ◌≡◌, refl, sym, ap, ◌∙◌, Bool, true, false, List, arith, ltb-true, ltb-false, eqb, ltb}
+use Rattle.std.proofs.Common.{ℕ, ◌+◌, ◌-◌, ◌≤◌, ◌<◌, ◌≡◌, refl, sym, ap, ◌∙◌, Bool, true, false, List, [], ◌∷◌, arith, length-append, ltb-false, eqb, ltb}
 use Rattle.std.proofs.Common.{Option}
+use mathlib.Core.Bool.{false≢true}
 use Rattle.std.proofs.Common.{None, Some}
 use Rattle.laws.specs.Lists.{any, find, position}
 use Rattle.laws.specs.Texts.{same_bytes}
@@ -10,9 +11,10 @@ use Rattle.model.specs.Model.{state_names}
 use Rattle.walking.specs.Walking.{peel, present}
 use Rattle.tokens.specs.Tokens.{differ}
 use Rattle.guards.specs.Payouts.{payout_token, payout_amount}
+use Rattle.fundings.specs.declared.facts.Facts.{Facts}
 use Rattle.reserves.specs.Reserves.{reserve_bounding_payout}
 use Rattle.entries.specs.declared.entry.Entry.{Entry}
-use Rattle.backings.specs.Marked.{without, with_used}
+use Rattle.backings.specs.Marked.{uses, without, with_used}
 use Rattle.entries.specs.Entered.{Entered, entry_of}
 use Rattle.backings.specs.Tables.{equal_to, bounded_by, first_free}
 use Rattle.backings.specs.declared.marks.Marks.{Marks as Coded}
@@ -23,11 +25,11 @@ use Rattle.matching.specs.Matching.Reason.{split_without_amount, conflict_at_equ
 use Rattle.matching.specs.Matching.Answer.{cover, rejection}
 use Rattle.matching.specs.Standing.{marks_of, Stands, backings_of, backing_at}
 use Rattle.matching.specs.Prepared.{Ready, payout_at}
-use Rattle.matching.specs.Coded.{coded_cover, coded_reason, coded, after_cover, after_answer, at_payout, equal_at, bounding_at, Answers, AnswersFor}
+use Rattle.matching.specs.Coded.{coded_cover, coded_reason, coded, after_cover, at_payout, equal_at, bounding_at, Answers, AnswersFor}
 use Rattle.matching.specs.declared.answer.Cover.TheVariants.{EqualDebit, EqualParameter, BoundingDebit, BoundingParameter, Reserve}
-use Rattle.matching.specs.declared.answer.Answer.{Answer}
-use Rattle.matching.specs.declared.answer.Answer.TheVariants.{Covered, Rejected}
-use Rattle.matching.specs.declared.answer.Answered.{Answered}
+use Rattle.matching.specs.declared.answer.Cover.{Cover}
+use Rattle.matching.specs.declared.answer.Reason.{Reason}
+use Rattle.std.specs.Prelude.{Result, Ok, Err}
 use Rattle.matching.specs.declared.answer.Pass.{Pass}
 use Rattle.matching.proofs.Steps.{split_step, answer-step, equal-step, no-equal-step, taken_step, untaken-step, bounding-step, no-bounding-step, reserve-step, no-reserve-step, conflict-step}
 use Rattle.matching.proofs.Steps.{take_step, used_step, unused-step}
@@ -62,7 +64,7 @@ abbrev Good : List Backing → Coded → ℕ → matching.Answer → Type 0
 Good bs m count (cover c after) = Stands bs (after_cover m count (coded_cover c)) after
 Good bs m count (rejection r) = Unit {0}
 
-module _ (file : List ℕ) (en : Entry) (t : Entered file en) (m : Coded) (room : m.uses < 64)
+module _ (file : List ℕ) (en : Entry) (t : Entered file en) (m : Coded) (room : uses m < 64)
     (s : Marks) (v : Stands (backings_of file en.place) m s) (p : Field) where
   abbrev model : Fields
   model = fields file
@@ -83,7 +85,7 @@ module _ (file : List ℕ) (en : Entry) (t : Entered file en) (m : Coded) (room 
 
   -- a backing is taken
   module _ (test : Field → Bool) (tests : Backing → Bool) (agree : (b : Backing) → tests b ≡ test b.amount) (i : ℕ)
-      (f : i ≡ first_free file en m test) (h : i < en.total)
+      (f : first_free file en m test ≡ Some i)
       (c : matching.Cover) (k : after_cover m en.debits (coded_cover c) ≡ without m i) (r : matching.Reason) where
     abbrev taken : Backing
     taken = backing_at file en i
@@ -97,7 +99,7 @@ module _ (file : List ℕ) (en : Entry) (t : Entered file en) (m : Coded) (room 
             rw (conflict-step s p tests taken c r e, conflict-step marks p tests taken c r e) (record { same = refl; good = tt })
         go false e =
             rw (take_step s p tests taken c r e, take_step marks p tests taken c r e)
-            (record { same = refl; good = rw k (backing-taken file en t m s v test tests agree i f h) })
+            (record { same = refl; good = rw k (backing-taken file en t m s v test tests agree i f) })
 
   -- a reserve is used
   fits-use : (i : ℕ) → Fits (take_reserve s i) (take_reserve marks i)
@@ -119,24 +121,20 @@ module _ (file : List ℕ) (en : Entry) (t : Entered file en) (m : Coded) (room 
       go (Some r) e = rw (reserve-step model entry s p r e, reserve-step model entry marks p r e) (fits-use (position (same_bytes r) (state_names model)))
 
   -- the first free backing that bounds the amount, or the rest
-  abbrev bounding : ℕ
-  bounding = first_free file en m (bounded_by (payout_amount p))
-
   fits-bounding : Fits (by_bounding model entry s p) (by_bounding model entry marks p)
   unfolding marks_of
-  fits-bounding = go (ltb bounding en.total) refl
+  fits-bounding = go (first_free file en m (bounded_by (payout_amount p))) refl
     where
-      go : (d : Bool) → ltb bounding en.total ≡ d → Fits (by_bounding model entry s p) (by_bounding model entry marks p)
-      go true e =
-          let h = ltb-true bounding en.total e in
-          let z = free-some file en t m (bounded_by (payout_amount p)) (bounds p) (bounds-amount p) bounding refl h in
+      go : (o : Option ℕ) → first_free file en m (bounded_by (payout_amount p)) ≡ o → Fits (by_bounding model entry s p) (by_bounding model entry marks p)
+      go (Some i) e =
+          let z = free-some file en t m (bounded_by (payout_amount p)) (bounds p) (bounds-amount p) i e in
           rw (
-            bounding-step model entry s p (backing_at file en bounding) (ap (find (bounds p)) v.free ∙ z),
-            bounding-step model entry marks p (backing_at file en bounding) z,
-          ) (fits-take (bounded_by (payout_amount p)) (bounds p) (bounds-amount p) bounding refl h (bounding_cover (backing_at file en bounding))
-          (ap (after_cover m en.debits) (bounding-coded file en bounding) ∙ bounding-takes m en.debits bounding) conflict_at_bounding)
-      go false e =
-          let z = free-none file en t m (bounded_by (payout_amount p)) (bounds p) (bounds-amount p) bounding refl (ltb-false bounding en.total e) in
+            bounding-step model entry s p (backing_at file en i) (ap (find (bounds p)) v.free ∙ z),
+            bounding-step model entry marks p (backing_at file en i) z,
+          ) (fits-take (bounded_by (payout_amount p)) (bounds p) (bounds-amount p) i e (bounding_cover (backing_at file en i))
+          (ap (after_cover m en.debits) (bounding-coded file en i) ∙ bounding-takes m en.debits i) conflict_at_bounding)
+      go None e =
+          let z = free-none file en t m (bounded_by (payout_amount p)) (bounds p) (bounds-amount p) e in
           rw (no-bounding-step model entry s p (ap (find (bounds p)) v.free ∙ z), no-bounding-step model entry marks p z) fits-reserve
 
   -- no taken backing may equal it
@@ -153,24 +151,20 @@ module _ (file : List ℕ) (en : Entry) (t : Entered file en) (m : Coded) (room 
           fits-bounding
 
   -- the first free one that equals it
-  abbrev equal : ℕ
-  equal = first_free file en m (equal_to (payout_amount p))
-
   fits-equal : Fits (by_equal model entry s p) (by_equal model entry marks p)
   unfolding marks_of
-  fits-equal = go (ltb equal en.total) refl
+  fits-equal = go (first_free file en m (equal_to (payout_amount p))) refl
     where
-      go : (d : Bool) → ltb equal en.total ≡ d → Fits (by_equal model entry s p) (by_equal model entry marks p)
-      go true e =
-          let h = ltb-true equal en.total e in
-          let z = free-some file en t m (equal_to (payout_amount p)) (equals p) (equals-amount p) equal refl h in
+      go : (o : Option ℕ) → first_free file en m (equal_to (payout_amount p)) ≡ o → Fits (by_equal model entry s p) (by_equal model entry marks p)
+      go (Some i) e =
+          let z = free-some file en t m (equal_to (payout_amount p)) (equals p) (equals-amount p) i e in
           rw (
-            equal-step model entry s p (backing_at file en equal) (ap (find (equals p)) v.free ∙ z),
-            equal-step model entry marks p (backing_at file en equal) z,
-          ) (fits-take (equal_to (payout_amount p)) (equals p) (equals-amount p) equal refl h (equal_cover (backing_at file en equal))
-          (ap (after_cover m en.debits) (equal-coded file en equal) ∙ equal-takes m en.debits equal) conflict_at_equal)
-      go false e =
-          let z = free-none file en t m (equal_to (payout_amount p)) (equals p) (equals-amount p) equal refl (ltb-false equal en.total e) in
+            equal-step model entry s p (backing_at file en i) (ap (find (equals p)) v.free ∙ z),
+            equal-step model entry marks p (backing_at file en i) z,
+          ) (fits-take (equal_to (payout_amount p)) (equals p) (equals-amount p) i e (equal_cover (backing_at file en i))
+          (ap (after_cover m en.debits) (equal-coded file en i) ∙ equal-takes m en.debits i) conflict_at_equal)
+      go None e =
+          let z = free-none file en t m (equal_to (payout_amount p)) (equals p) (equals-amount p) e in
           rw (no-equal-step model entry s p (ap (find (equals p)) v.free ∙ z), no-equal-step model entry marks p z) fits-taken
 
   fits-answer : Fits (answer model entry s p) (answer model entry marks p)
@@ -181,61 +175,68 @@ module _ (file : List ℕ) (en : Entry) (t : Entered file en) (m : Coded) (room 
       go true e = rw (answer-step model entry s p e, answer-step model entry marks p e) fits-equal
       go false e = rw (split_step model entry s p e, split_step model entry marks p e) (record { same = refl; good = tt })
 
-  -- all of it
-  answers_by : (r : Answered) → r.answer ≡ coded (answer model entry marks p) → r.pass.marks ≡ after_answer m en.debits r.answer → Answers model entry bs s p r
-  unfolding coded after_answer
-  answers_by r e f = go (answer model entry s p) refl fits-answer
-    where
-      go : (d : matching.Answer) → answer model entry s p ≡ d → Fits (answer model entry s p) (answer model entry marks p) → Answers model entry bs s p r
-      go (cover c after) h w =
-          let a : r.answer ≡ Covered (coded_cover c) = e ∙ sym w.same ∙ ap coded h in
-          record {
-            after = after;
-            same = h ∙ rw (a, cover-back c);
-            stands = rw (f, a) (rw h at w.good);
-          }
-      go (rejection x) h w =
-          let a : r.answer ≡ Rejected (coded_reason x) = e ∙ sym w.same ∙ ap coded h in
-          record {
-            after = s;
-            same = h ∙ rw (a, reason-back x);
-            stands = rw (f, a) v;
-          }
+  -- all of it: a cover is taken, and a rejection changes nothing
+  module _ (r : Result Cover Reason) (e : r ≡ coded (answer model entry marks p)) where
+    answers_covered : (c : Cover) → r ≡ Ok c → (left : Coded) → left ≡ after_cover m en.debits c → Answers model entry bs s p r left
+    unfolding coded
+    answers_covered c g left f = go (answer model entry s p) refl fits-answer
+      where
+        go : (d : matching.Answer) → answer model entry s p ≡ d → Fits (answer model entry s p) (answer model entry marks p) → Answers model entry bs s p r left
+        go (cover d after) h w =
+            let a : r ≡ Ok (coded_cover d) = e ∙ sym w.same ∙ ap coded h in
+            let b : c ≡ coded_cover d = cc in
+            record {
+              after = after;
+              same = h ∙ rw (a, cover-back d);
+              stands = rw (f, b) (rw h at w.good);
+            }
+        go (rejection x) h w =
+            let a : r ≡ Err (coded_reason x) = e ∙ sym w.same ∙ ap coded h in
+            absurd (false≢true cc)
+
+    answers_rejected : (q : Reason) → r ≡ Err q → Answers model entry bs s p r m
+    unfolding coded
+    answers_rejected q g = go (answer model entry s p) refl fits-answer
+      where
+        go : (d : matching.Answer) → answer model entry s p ≡ d → Fits (answer model entry s p) (answer model entry marks p) → Answers model entry bs s p r m
+        go (cover d after) h w =
+            let a : r ≡ Ok (coded_cover d) = e ∙ sym w.same ∙ ap coded h in
+            absurd (false≢true cc)
+        go (rejection x) h w =
+            let a : r ≡ Err (coded_reason x) = e ∙ sym w.same ∙ ap coded h in
+            record {
+              after = s;
+              same = h ∙ rw (a, reason-back x);
+              stands = v;
+            }
 
 -- and for all marks that the code's stand for
-module _ (file : List ℕ) (en : Entry) (facts : List ℕ) (pass : Pass) (k : ℕ) (w : Ready file en facts pass k) (n : ℕ)
-    (a : Answer) (e : a ≡ coded (at_payout answer file en pass.marks k)) (after : Coded) (g : after ≡ after_answer pass.marks en.debits a) where
-  pub answers-all : AnswersFor file en pass.marks k (record { answer = a; pass = record { marks = after; admitted = n } })
-  answers-all before v =
-      answers_by file en w.prepared.entered pass.marks w.room before v (payout_at file en k)
-      (record { answer = a; pass = record { marks = after; admitted = n } }) e g
+module _ (file : List ℕ) (en : Entry) (facts : Facts) (pass : Pass) (k : ℕ) (w : Ready file en facts pass k)
+    (r : Result Cover Reason) (e : r ≡ coded (at_payout answer file en pass.marks k)) (between left : Coded) (same : between ≡ pass.marks) where
+  pub covered-all : (c : Cover) → r ≡ Ok c → left ≡ after_cover between en.debits c → AnswersFor file en pass.marks k (Ok c) left
+  covered-all c g f before v =
+      rw (← g) (answers_covered file en w.prepared.entered pass.marks w.room before v (payout_at file en k) r e c g left (f ∙ ap (λ m. after_cover m en.debits c) same))
+
+  pub rejected-all : (q : Reason) → r ≡ Err q → AnswersFor file en pass.marks k (Err q) between
+  rejected-all q g before v =
+      rw (← g, same) (answers_rejected file en w.prepared.entered pass.marks w.room before v (payout_at file en k) r e q g)
 
 -- one more reserve at most
-module _ (m : Coded) (count : ℕ) where
-  without-uses : (i : ℕ) → (without m i).uses ≤ m.uses + 1
-  unfolding without
-  without-uses i = go (ltb i 64) refl
-    where
-      go : (b : Bool) → ltb i 64 ≡ b → (without m i).uses ≤ m.uses + 1
-      go true e = rw e (omega arith)
-      go false e = rw e (omega arith)
+with-uses : (m : Coded) (i : ℕ) → uses (with_used m i) ≤ uses m + 1
+unfolding with_used
+with-uses m i = go (ltb (uses m) 64) refl
+  where
+    go : (b : Bool) → ltb (uses m) 64 ≡ b → uses (with_used m i) ≤ uses m + 1
+    go true e = rw (e, length-append m.used.items (i ∷ [])) (omega arith)
+    go false e = rw e (omega arith)
 
-  with-uses : (i : ℕ) → (with_used m i).uses ≤ m.uses + 1
-  unfolding with_used
-  with-uses i = go (ltb m.uses 64) refl
-    where
-      go : (b : Bool) → ltb m.uses 64 ≡ b → (with_used m i).uses ≤ m.uses + 1
-      go true e = rw e (omega arith)
-      go false e = rw e (omega arith)
+uses-after : (m : Coded) (count : ℕ) (c : Cover) → uses (after_cover m count c) ≤ uses m + 1
+unfolding after_cover without
+uses-after m count (EqualDebit i) = omega arith
+uses-after m count (EqualParameter i) = omega arith
+uses-after m count (BoundingDebit i) = omega arith
+uses-after m count (BoundingParameter i) = omega arith
+uses-after m count (Reserve i) = with-uses m i
 
-  uses-after : (a : Answer) → (after_answer m count a).uses ≤ m.uses + 1
-  unfolding after_answer after_cover
-  uses-after (Covered (EqualDebit i)) = without-uses i
-  uses-after (Covered (EqualParameter i)) = without-uses (count + i)
-  uses-after (Covered (BoundingDebit i)) = without-uses i
-  uses-after (Covered (BoundingParameter i)) = without-uses (count + i)
-  uses-after (Covered (Reserve i)) = with-uses i
-  uses-after (Rejected r) = omega arith
-
-  pub uses-few : (a : Answer) (r : Coded) → r ≡ after_answer m count a → r.uses ≤ m.uses + 1
-  uses-few a r e = rw e (uses-after a)
+pub uses-few : (m between : Coded) → between ≡ m → (count : ℕ) (c : Cover) (left : Coded) → left ≡ after_cover between count c → uses left ≤ uses m + 1
+uses-few m between same count c left f = rw (f, same) (uses-after m count c)

@@ -1,11 +1,10 @@
 -- The code's covers, reasons and answers, case by case.
-use Rattle.std.specs.Prelude.{ℕ, ◌+◌, ◌-◌, ◌≡◌, cond, List, eqb, ltb}
-use Rattle.laws.specs.Numbers.{down_from}
+use Rattle.std.specs.Prelude.{ℕ, ◌+◌, ◌-◌, ◌≡◌, cond, List, eqb, ltb, Result, Ok, Err}
 use Rattle.laws.specs.Lists.{any}
 use Rattle.fields.specs.Field.{Field, Fields, fields}
 use Rattle.entries.specs.Entered.{entry_of}
 use Rattle.entries.specs.declared.entry.Entry.{Entry}
-use Rattle.backings.specs.Marked.{used_at, without, with_used}
+use Rattle.backings.specs.Marked.{without, with_used}
 use Rattle.backings.specs.declared.marks.Marks.{Marks as Coded}
 use Rattle.matching.specs.Matching.{Backing, Marks, answer}
 use Rattle.matching.specs.Matching as matching
@@ -18,9 +17,6 @@ use Rattle.matching.specs.declared.answer.Cover.{Cover}
 use Rattle.matching.specs.declared.answer.Cover.TheVariants.{EqualDebit, EqualParameter, BoundingDebit, BoundingParameter, Reserve}
 use Rattle.matching.specs.declared.answer.Reason.{Reason}
 use Rattle.matching.specs.declared.answer.Reason.TheVariants.{SplitWithoutAmount, ConflictAtEqual, AmountTaken, ConflictAtBounding, NoReserve, ReserveUsed}
-use Rattle.matching.specs.declared.answer.Answer.{Answer}
-use Rattle.matching.specs.declared.answer.Answer.TheVariants.{Covered, Rejected}
-use Rattle.matching.specs.declared.answer.Answered.{Answered}
 
 -- the cover that one of the code is
 abbrev pub cover_of : Cover → matching.Cover
@@ -39,10 +35,19 @@ reason_of ConflictAtBounding = conflict_at_bounding
 reason_of NoReserve = no_reserve
 reason_of ReserveUsed = reserve_used
 
+-- its number in the paper
+abbrev pub reason_number : Reason → ℕ
+reason_number SplitWithoutAmount = 1
+reason_number ConflictAtEqual = 2
+reason_number AmountTaken = 3
+reason_number ConflictAtBounding = 4
+reason_number NoReserve = 5
+reason_number ReserveUsed = 6
+
 -- the answer, with the marks after it
-abbrev pub answer_of : Answer → Marks → matching.Answer
-answer_of (Covered c) after = cover (cover_of c) after
-answer_of (Rejected r) after = rejection (reason_of r)
+abbrev pub answer_of : Result Cover Reason → Marks → matching.Answer
+answer_of (Ok c) after = cover (cover_of c) after
+answer_of (Err r) after = rejection (reason_of r)
 
 -- the other way round: the code's cover, reason and answer
 abbrev pub coded_cover : matching.Cover → Cover
@@ -60,9 +65,9 @@ coded_reason conflict_at_bounding = ConflictAtBounding
 coded_reason no_reserve = NoReserve
 coded_reason reserve_used = ReserveUsed
 
-unfoldable pub coded : matching.Answer → Answer
-coded (cover c after) = Covered (coded_cover c)
-coded (rejection r) = Rejected (coded_reason r)
+unfoldable pub coded : matching.Answer → Result Cover Reason
+coded (cover c after) = Ok (coded_cover c)
+coded (rejection r) = Err (coded_reason r)
 
 -- the marks after a cover: what it names is taken or used. `count` is the number of debits
 unfoldable pub after_cover : Coded → ℕ → Cover → Coded
@@ -71,11 +76,6 @@ after_cover m count (EqualParameter i) = without m (count + i)
 after_cover m count (BoundingDebit i) = without m i
 after_cover m count (BoundingParameter i) = without m (count + i)
 after_cover m count (Reserve i) = with_used m i
-
--- and after an answer: a rejection changes nothing
-unfoldable pub after_answer : Coded → ℕ → Answer → Coded
-after_answer m count (Covered c) = after_cover m count c
-after_answer m count (Rejected r) = m
 
 -- the cover by backing number i, which equals the amount
 unfoldable pub equal_at : (count i : ℕ) → Cover
@@ -86,21 +86,22 @@ unfoldable pub bounding_at : (count i : ℕ) → Cover
 bounding_at count i = cond (ltb i count) (BoundingDebit i) (BoundingParameter (i - count))
 
 -- the answer by the reserve at an index, which may be used
-unfoldable pub reserve_at : Coded → ℕ → Answer
-reserve_at m i = cond (any (eqb i) (down_from (used_at m) m.uses)) (Rejected ReserveUsed) (Covered (Reserve i))
+unfoldable pub reserve_at : Coded → ℕ → Result Cover Reason
+reserve_at m i = cond (any (eqb i) m.used.items) (Err ReserveUsed) (Ok (Reserve i))
 
 -- a step of the definition, for the k-th payout of an entry and the marks that the code's stand for
 abbrev pub at_payout : (Fields → Field → Marks → Field → matching.Answer) → List ℕ → Entry → Coded → ℕ → matching.Answer
 at_payout step file e m k = step (fields file) (entry_of file e.place) (marks_of (backings_of file e.place) m) (payout_at file e k)
 
--- the code's answer and marks are those that the definition gives for a payout, whatever the order in which its marks stand
-pub record Answers (model : Fields) (entry : Field) (bs : List Backing) (s : Marks) (p : Field) (r : Answered) : Type 0 where
+-- the code's answer, and its marks after it, are those that the definition gives for a payout, whatever the order in which its
+-- marks stand
+pub record Answers (model : Fields) (entry : Field) (bs : List Backing) (s : Marks) (p : Field) (r : Result Cover Reason) (left : Coded) : Type 0 where
   pub after : Marks
-  pub same : answer model entry s p ≡ answer_of r.answer after
-  pub stands : Stands bs r.pass.marks after
+  pub same : answer model entry s p ≡ answer_of r after
+  pub stands : Stands bs left after
 
 -- for all marks that the code's stand for
-abbrev pub AnswersFor : List ℕ → Entry → Coded → ℕ → Answered → Type 0
-AnswersFor file e m k r =
+abbrev pub AnswersFor : List ℕ → Entry → Coded → ℕ → Result Cover Reason → Coded → Type 0
+AnswersFor file e m k r left =
     (before : Marks) → Stands (backings_of file e.place) m before →
-    Answers (fields file) (entry_of file e.place) (backings_of file e.place) before (payout_at file e k) r
+    Answers (fields file) (entry_of file e.place) (backings_of file e.place) before (payout_at file e k) r left

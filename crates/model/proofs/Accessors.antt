@@ -1,28 +1,62 @@
--- The n-th of a class is what its accessor's answer starts with.
-use Rattle.std.proofs.Common.{ℕ, zero, suc, ◌-◌, ◌≡◌, refl, ap, ◌∙◌, Bool, true, false, List, [], ◌∷◌, map, zero-add, length, get_or, take, drop}
-use Rattle.fields.specs.Field.{Field, fields, whole, front, part, parts, nth, nothing, fields_from, placed_from, from_nth}
-use Rattle.fields.proofs.Rows.{rest_of, nth-placed, nth-of-row}
-use Rattle.model.specs.Shown.{shown}
+-- The n-th of a class is the n-th of the row that passes its range.
+use Rattle.std.proofs.Common.{ℕ, ◌+◌, ◌≡◌, refl, sym, ap, ◌∙◌, List, [], ◌∷◌, Option, None, Some, filter, map, get_or}
+use Rattle.std.specs.List.{slice_get}
+use Rattle.std.specs.Option.{option_map, unwrap_or}
+use Rattle.std.proofs.lemmas.Option.{slice_get-map, unwrap_or-slice_get}
+use Rattle.tags.specs.Tag.{between}
+use Rattle.fields.specs.Field.{Field, Fields, Placed, fields, tag, part, parts, nth, nothing, placed, placed_parts, fields_from, placed_from}
+use Rattle.fields.specs.Field.Fields.{end, next}
+use Rattle.fields.specs.Row.{shown as found, left, Steps}
+use Rattle.fields.specs.declared.field.Field.{Field as Found}
+use Rattle.fields.specs.declared.field.Fields.{Fields as Remaining}
+use Rattle.fields.proofs.InARow.{placed-end, left-next}
+use Rattle.fields.proofs.Rows.{placed_row}
+use Rattle.model.specs.Shown.{this_of, or_nothing}
 
-mapped : (l : List Field) (k : ℕ) → part 0 (get_or l k nothing) ≡ get_or (map (part 0) l) k nothing
-unfolding nth
-mapped [] k = refl
-mapped (f ∷ l) zero = refl
-mapped (f ∷ l) (suc k) = mapped l k
+-- the first of some fields, or nothing
+first : List Placed → Field
+first [] = nothing
+first (p ∷ ps) = p.this
 
-module _ (low high n : ℕ) where
+nth-first : (fs : Fields) (k : ℕ) → nth 0 fs ≡ first (placed k fs)
+unfolding nth placed first
+nth-first (end r) k = refl
+nth-first (next f fs) k = refl
+
+-- a step into the parts of a field gives the first
+first-part : (g : Found) (row t : Remaining) → left row ≡ placed_parts (found g) → (o : Option Found) → Steps row o t → or_nothing o ≡ part 0 (this_of g)
+unfolding first
+first-part g row t l None w = sym (nth-first (parts (this_of g)) (g.place + 3) ∙ ap first (sym l) ∙ ap first (placed-end row.rest.now w row.place))
+first-part g row t l (Some p) w = sym (nth-first (parts (this_of g)) (g.place + 3) ∙ ap first (sym l) ∙ ap first (left-next row p t w))
+
+module _ (low high n : ℕ) (s file : List ℕ) (e : s ≡ file) (k : ℕ) (r : Option Found) (q : option_map found r ≡ slice_get (filter (λ p. between low high (tag p.this)) (placed k (fields s))) n) where
   -- with its place
-  pub shown-nth : (s r : List ℕ) → r ≡ from_nth low high n s → shown s r ≡ take 1 (drop n (placed_from low high 0 (fields s)))
-  shown-nth s r e = ap (shown s) e ∙ rw (nth-placed low high n s 0) (go (from_nth low high n s) _ refl)
-    where
-      go : (t : List ℕ) (w : Bool) → whole t ≡ w → shown s t ≡ take 1 (rest_of low high 0 s t)
-      go t true w = rw (w, zero-add (length s - length t))
-      go t false w = rw w
+  pub found-nth : k ≡ 0 → option_map found r ≡ slice_get (placed_from low high 0 (fields file)) n
+  unfolding placed_from
+  found-nth z = rw (← e, ← z) q
 
   -- without
-  pub part-nth : (f : Field) (s r : List ℕ) → fields s ≡ parts f → r ≡ from_nth low high n s → front r ≡ get_or (fields_from low high (parts f)) n nothing
-  part-nth f s r p e = ap (λ t. front t) e ∙ nth-of-row low high n s ∙ ap (λ fs. get_or (fields_from low high fs) n nothing) p
+  of-row : option_map this_of r ≡ slice_get (fields_from low high (fields file)) n
+  unfolding placed_from
+  of-row = go r ∙ ap (option_map (λ x. x.this)) q ∙ sym (slice_get-map (λ x. x.this) (placed_from low high k (fields s)) n) ∙ rw (placed_row, e)
+    where
+      go : (o : Option Found) → option_map this_of o ≡ option_map (λ x. x.this) (option_map found o)
+      go None = refl
+      go (Some x) = refl
+
+  pub this-nth : (f : Field) → fields file ≡ parts f → option_map this_of r ≡ slice_get (fields_from low high (parts f)) n
+  this-nth f p = rw (← p) of-row
 
   -- the first part of it
-  pub inner-nth : (s r x : List ℕ) → r ≡ from_nth low high n s → front x ≡ part 0 (front r) → front x ≡ get_or (map (part 0) (fields_from low high (fields s))) n nothing
-  inner-nth s r x e p = p ∙ ap (λ t. part 0 (front t)) e ∙ ap (part 0) (nth-of-row low high n s) ∙ mapped (fields_from low high (fields s)) n
+  inner : unwrap_or (option_map (part 0) (option_map this_of r)) nothing ≡ get_or (map (part 0) (fields_from low high (fields file))) n nothing
+  inner =
+      ap (λ o. unwrap_or (option_map (part 0) o) nothing) of-row
+      ∙ ap (λ o. unwrap_or o nothing) (sym (slice_get-map (part 0) (fields_from low high (fields file)) n))
+      ∙ unwrap_or-slice_get (map (part 0) (fields_from low high (fields file))) n nothing
+
+  pub inner-none : r ≡ None → nothing ≡ get_or (map (part 0) (fields_from low high (fields file))) n nothing
+  inner-none h = rw h at inner
+
+  pub inner-nth : (g : Found) → r ≡ Some g → (row t : Remaining) → left row ≡ placed_parts (found g) → (o : Option Found) → Steps row o t →
+      or_nothing o ≡ get_or (map (part 0) (fields_from low high (fields file))) n nothing
+  inner-nth g h row t l o w = first-part g row t l o w ∙ (rw h at inner)

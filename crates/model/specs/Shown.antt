@@ -1,8 +1,13 @@
--- What an accessor's answer, a part of the file that starts with a field, shows.
-use Rattle.std.specs.Prelude.{ℕ, ◌-◌, cond, List, [], ◌∷◌, length}
-use Rattle.fields.specs.Field.{Placed, whole, front}
+-- A field that was found, without its place.
+use Rattle.std.specs.Prelude.{Option, None, Some}
+use Rattle.fields.specs.Field.{Field, front, nothing}
+use Rattle.fields.specs.declared.field.Field.{Field as Found}
 
--- the field at its front with its place in the file, or nothing: a part that goes on to the end of the file starts where
--- the bytes before it end
-abbrev pub shown : (file part : List ℕ) → List Placed
-shown file part = cond (whole part) (record { place = length file - length part; this = front part } ∷ []) []
+-- the field that was found, without its place
+abbrev pub this_of : Found → Field
+this_of p = front p.part.now
+
+-- or nothing, where none was found
+abbrev pub or_nothing : Option Found → Field
+or_nothing None = nothing
+or_nothing (Some p) = this_of p

@@ -1,18 +1,24 @@
-// The model that a file carries: state fields by their names, and all by numbers, counted from 0 in file order. Of the file, an
-// answer is the part from the field on, so its place is the file's length less the answer's; where there is no such field it
-// holds none.
+// The model that a file carries: state fields by their names, and all by numbers, counted from 0 in file order. An answer is a
+// field with its place: of the file, or of the entry's parts counted from the entry's own place.
 #![tactic(auto)]
 
-ghost use Rattle.std.specs.Prelude.{◌≡◌, take, drop, get_or};
+ghost use Rattle.std.specs.Prelude.{◌≡◌, filter, get_or};
+ghost use Rattle.std.specs.Option.{option_map};
+ghost use Rattle.std.specs.List.{slice_get};
 ghost use Rattle.laws.specs.Lists.{any};
 ghost use Rattle.laws.specs.Texts.{same_bytes};
-ghost use Rattle.fields.specs.Field.{fields, front, nothing};
+ghost use Rattle.tags.specs.Tag.{between};
+ghost use Rattle.fields.specs.Field.{fields, front, tag, nothing};
+ghost use Rattle.fields.specs.Row.{shown, left};
 ghost use Rattle.model.specs.Model.{name_of, state_names, states, genesis, entries, params, clauses, body};
-ghost use Rattle.model.specs.Shown.{shown};
+ghost use Rattle.model.specs.Shown.{this_of, or_nothing};
 
-use fields::bytes::same_bytes;
-use fields::front::{after_front, first_from, is_whole, nth_from, part_of, parts_of, text_of};
-use tags::{DENIES, ENTRY, EXPRESSION_STATEMENT, GENESIS, GUARD, LIMITS, PARAMETER, STATE};
+use fields::bytes::{same_bytes, skip};
+use fields::front::{part_of, parts_of, text_of};
+use fields::row::{Field, Fields, fields_at};
+use tags::{
+    DENIES, ENTRY, EXPRESSION_STATEMENT, GENESIS, GUARD, LIMITS, PARAMETER, STATE, is_between,
+};
 
 // The name of the state field, entry or parameter at the front of s.
 pub fn name_of(s: &[u8]) -> &[u8]
@@ -21,59 +27,71 @@ pub fn name_of(s: &[u8]) -> &[u8]
     text_of(part_of(s, 0))
 }
 
+// Whether the state field, entry or parameter at the front of s has this name. It would stand behind two heads, and most fields have
+// another there: that takes less time than to read the name.
+pub fn is_named(s: &[u8], name: &[u8]) -> bool
+    ensures { result ≡ same_bytes name.now (name_of (front s.now)) }
+{
+    skip(s, 6).starts_with(name) && same_bytes(name, name_of(s))
+}
+
 // Whether a state field of s has this name.
 pub fn has_state(s: &[u8], name: &[u8]) -> bool
     ensures { result ≡ any (same_bytes name.now) (state_names (fields s.now)) }
 {
-    let mut t = first_from(s, STATE, STATE);
-    while is_whole(t) {
-        if same_bytes(name, name_of(t)) {
-            return true;
-        }
-        let u = first_from(after_front(t), STATE, STATE);
-        t = u;
-    }
-    false
+    fields_at(s, 0)
+        .filter(|field| field.tag() == STATE)
+        .any(|field| is_named(field.part, name))
 }
 
-// The file from its n-th state field on.
-pub fn nth_state(file: &[u8], n: usize) -> &[u8]
-    ensures { shown file.now result.now ≡ take 1 (drop n (states (fields file.now))) }
+// The n-th of a row's fields whose tags are from low to high.
+fn nth_from(row: Fields, low: u8, high: u8, n: usize) -> Option<Field>
+    ensures { option_map shown result ≡ slice_get (filter (λ p. between low high (tag p.this)) (left row.entry)) n }
 {
-    nth_from(file, STATE, STATE, n)
+    row.filter(|field| is_between(low, high, field.tag()))
+        .nth(n)
 }
 
-// The file from its n-th entry on.
-pub fn nth_entry(file: &[u8], n: usize) -> &[u8]
-    ensures { shown file.now result.now ≡ take 1 (drop n (entries (fields file.now))) }
+// The n-th state field of the file.
+pub fn nth_state(file: &[u8], n: usize) -> Option<Field>
+    ensures { option_map shown result ≡ slice_get (states (fields file.now)) n }
 {
-    nth_from(file, ENTRY, ENTRY, n)
+    nth_from(fields_at(file, 0), STATE, STATE, n)
 }
 
-// Its n-th genesis statement.
-pub fn nth_genesis(file: &[u8], n: usize) -> &[u8]
-    ensures { front result.now ≡ get_or (genesis (fields file.now)) n nothing }
+// The n-th entry of the file.
+pub fn nth_entry(file: &[u8], n: usize) -> Option<Field>
+    ensures { option_map shown result ≡ slice_get (entries (fields file.now)) n }
 {
-    part_of(nth_from(file, GENESIS, GENESIS, n), 0)
+    nth_from(fields_at(file, 0), ENTRY, ENTRY, n)
+}
+
+// Its n-th genesis statement, if that is there.
+pub fn nth_genesis(file: &[u8], n: usize) -> Option<Field>
+    ensures { or_nothing result ≡ get_or (genesis (fields file.now)) n nothing }
+{
+    nth_from(fields_at(file, 0), GENESIS, GENESIS, n)?
+        .parts()
+        .next()
 }
 
 // The n-th parameter of the entry at the front of s.
-pub fn nth_parameter(s: &[u8], n: usize) -> &[u8]
-    ensures { front result.now ≡ get_or (params (front s.now)) n nothing }
+pub fn nth_parameter(s: &[u8], n: usize) -> Option<Field>
+    ensures { option_map this_of result ≡ slice_get (params (front s.now)) n }
 {
-    nth_from(parts_of(s), PARAMETER, PARAMETER, n)
+    nth_from(fields_at(parts_of(s), 3), PARAMETER, PARAMETER, n)
 }
 
 // Its n-th clause.
-pub fn nth_clause(s: &[u8], n: usize) -> &[u8]
-    ensures { front result.now ≡ get_or (clauses (front s.now)) n nothing }
+pub fn nth_clause(s: &[u8], n: usize) -> Option<Field>
+    ensures { option_map this_of result ≡ slice_get (clauses (front s.now)) n }
 {
-    nth_from(parts_of(s), LIMITS, DENIES, n)
+    nth_from(fields_at(parts_of(s), 3), LIMITS, DENIES, n)
 }
 
 // Its n-th body statement.
-pub fn nth_statement(s: &[u8], n: usize) -> &[u8]
-    ensures { front result.now ≡ get_or (body (front s.now)) n nothing }
+pub fn nth_statement(s: &[u8], n: usize) -> Option<Field>
+    ensures { option_map this_of result ≡ slice_get (body (front s.now)) n }
 {
-    nth_from(parts_of(s), GUARD, EXPRESSION_STATEMENT, n)
+    nth_from(fields_at(parts_of(s), 3), GUARD, EXPRESSION_STATEMENT, n)
 }

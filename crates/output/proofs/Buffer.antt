@@ -1,27 +1,19 @@
 -- Writing into a buffer: what is written first and what is written then is written, and what has no room stays out.
 use Rattle.std.proofs.Common.{ℕ, ◌+◌, ◌≤◌, ◌<◌, ◌≡◌, refl, sym, ap, ◌∙◌, Bool, true, false, List, [], ◌∷◌, ◌++◌, arith}
-use Rattle.std.proofs.Common.{add-one, leb-true, leb-false, leb, length, get_or, set, take, drop}
+use Rattle.std.proofs.Common.{add-one, leb-true, leb-false, leb, length, get_or, take, drop}
 use Rattle.std.proofs.Common.{length-append, length-take-le, take-append-drop, take_all, take_at, take-suc}
-use lib.Seq.{sets, set_out, sets-eq, length-sets, take-append_seam}
+use lib.Seq.{sets, sets-eq, length-sets, take-append_seam}
 use Rattle.laws.proofs.Tables.{sets-append, sets-out}
 use Rattle.output.specs.Output.{Written}
+use Rattle.output.specs.Writes.{Writes}
+use Rattle.output.specs.declared.Output.{Output}
 
 pub written_none : (t : List ℕ) (n : ℕ) → n ≤ length t → Written [] t n t n
 written_none t n h = record { kept = refl; count = omega (arith, h) }
 
-module _ (k : ℕ) (t : List ℕ) (n : ℕ) where
-  pub written_byte : n < length t → Written (k ∷ []) t n (set t n k) (n + 1)
-  written_byte h = record { kept = refl; count = omega (arith, h) }
-
-  pub no_room : n ≤ length t → length t ≤ n → Written (k ∷ []) t n t n
-  no_room g h = record { kept = sym (set_out t n k h); count = omega (arith, g, h) }
-
 module _ (xs t : List ℕ) (n : ℕ) (u : List ℕ) (m : ℕ) (p : Written xs t n u m) where
-  pub same-room : length u ≡ length t
+  same-room : length u ≡ length t
   same-room = rw p.kept (length-sets t n xs)
-
-  pub written-within : m ≤ length u
-  written-within = rw same-room (omega (arith, p.count))
 
   module _ (ys v : List ℕ) (r : ℕ) (q : Written ys u m v r) where
     room-or-not : (b : Bool) → leb (n + length xs) (length t) ≡ b → v ≡ sets t n (xs ++ ys)
@@ -57,28 +49,23 @@ written-front xs t u r p = go (leb (length xs) (length t)) refl
         ∙ sets-out (drop r xs) (sets t 0 (take r xs)) (0 + length (take r xs)) (rw (length-sets t 0 (take r xs)) (omega (arith, e, k))) in
         rw (part, sets-eq (take r xs) t 0 (omega (arith, k, e))) (take_at (take r xs) (drop (0 + length (take r xs)) t) r k)
 
--- A text, byte by byte: the bytes before i are written
-pub record Writing (text t : List ℕ) (n : ℕ) (u : List ℕ) (i m : ℕ) : Type 0 where
-  pub reached : i ≤ length text
-  pub so_far : Written (take i text) t n u m
+-- The same of an output
+module _ (a : Output) where
+  pub writes-none : Writes [] a a
+  writes-none = record { bytes = written_none a.buffer.now a.written a.within; same = refl }
 
-module _ (text t : List ℕ) (n : ℕ) where
-  pub writing-none : n ≤ length t → Writing text t n t 0 n
-  writing-none h = record { reached = omega arith; so_far = written_none t n h }
-
-  module _ (u : List ℕ) (i m : ℕ) (w : Writing text t n u i m) where
-    pub writing-room : m ≤ length u
-    writing-room = written-within (take i text) t n u m w.so_far
-
-    pub writing-same : length u ≡ length t
-    writing-same = same-room (take i text) t n u m w.so_far
-
-    pub writing-on : (v : List ℕ) (r x : ℕ) → i < length text → x ≡ get_or text i 0 → Written (x ∷ []) u m v r → Writing text t n v (i + 1) r
-    writing-on v r x h e q =
+  module _ (xs ys : List ℕ) (b c : Output) where
+    pub writes_then : Writes xs a b → Writes ys b c → Writes (xs ++ ys) a c
+    writes_then p q =
         record {
-          reached = omega (arith, h);
-          so_far = rw (add-one i, take-suc text i 0 h, ← e) (written_then (take i text) t n u m w.so_far (x ∷ []) v r q);
+          bytes = written_then xs a.buffer.now a.written b.buffer.now b.written p.bytes ys c.buffer.now c.written q.bytes;
+          same = q.same ∙ p.same;
         }
 
-    pub writing-all : length text ≤ i → Written text t n u m
-    writing-all h = rw (take_all i text h) at w.so_far
+  -- a text, byte by byte
+  module _ (text : List ℕ) (i : ℕ) (b : Output) (p : Writes (take i text) a b) where
+    pub writes-on : i < length text → (x : ℕ) → x ≡ get_or text i 0 → (c : Output) → Writes (x ∷ []) b c → Writes (take (i + 1) text) a c
+    writes-on h x e c q = rw (add-one i, take-suc text i 0 h, ← e) (writes_then (take i text) (x ∷ []) b c p q)
+
+    pub writes-all : length text ≤ i → Writes text a b
+    writes-all h = rw (take_all i text h) at p

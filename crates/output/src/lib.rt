@@ -1,33 +1,48 @@
 // Bytes written into a lent buffer, one behind the other. What has no room is left out.
 #![tactic(auto)]
 
-ghost use Rattle.std.specs.Prelude.{[], ◌∷◌, ◌≤◌, length};
-ghost use Rattle.output.specs.Output.{Written};
+ghost use Rattle.std.specs.Prelude.{◌≤◌, length};
 
-use fields::bytes::byte_at;
-
-// Writes a byte at n, and answers where the next one goes.
-pub fn write_byte(byte: u8, buffer: &mut [u8], n: usize) -> usize
-    requires { n ≤ length buffer.old }
-    ensures { Written (byte ∷ []) buffer.old n buffer.new result }
-{
-    if n < buffer.len() {
-        buffer[n] = byte;
-        return n + 1;
-    }
-    n
+// A lent buffer, and how many of its bytes are written: those in front.
+#[derive(Drop)]
+pub struct Output<'a> {
+    pub buffer: &'a mut [u8],
+    pub written: usize,
+    ghost within: { written ≤ length buffer.now },
 }
 
-// Writes a text.
-pub fn write_text(text: &[u8], buffer: &mut [u8], n: usize) -> usize
-    requires { n ≤ length buffer.old }
-    ensures { Written text.now buffer.old n buffer.new result }
-{
-    let mut i = 0;
-    let mut m = n;
-    while i < text.len() {
-        m = write_byte(byte_at(text, i), buffer, m);
-        i += 1;
+impl<'a> Output<'a> {
+    ghost use Rattle.std.specs.Prelude.{◌≡◌, [], ◌∷◌};
+    ghost use Rattle.output.specs.Writes.{Writes};
+
+    // A buffer into which nothing is written yet.
+    pub fn new(buffer: &'a mut [u8]) -> Output<'a>
+        ensures same { result.buffer.ghost_name ≡ buffer.entry.ghost_name }
+        ensures kept { result.buffer.now ≡ buffer.old }
+        ensures none { result.written ≡ 0 }
+    {
+        Output {
+            buffer: buffer,
+            written: 0,
+        }
     }
-    m
+
+    // Writes a byte.
+    pub fn write_byte(&mut self, byte: u8)
+        ensures { Writes (byte ∷ []) self.old self.new }
+    {
+        if self.written < self.buffer.len() {
+            self.buffer[self.written] = byte;
+            self.written += 1;
+        }
+    }
+
+    // Writes a text.
+    pub fn write_text(&mut self, text: &[u8])
+        ensures { Writes text.now self.old self.new }
+    {
+        for &byte in text {
+            self.write_byte(byte);
+        }
+    }
 }

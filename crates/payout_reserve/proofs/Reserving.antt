@@ -1,6 +1,6 @@
 -- A payout that is not there asks for no token, so that no state field covers it; one that is there stands at its place in the
 -- table, which has room for all.
-use Rattle.std.proofs.Common.{ℕ, ◌≤◌, ◌<◌, ◌≡◌, refl, ap, ◌∙◌, false, ◌&&◌, List, [], arith, length, get_or, set, replicate, take}
+use Rattle.std.proofs.Common.{ℕ, ◌≤◌, ◌<◌, ◌≡◌, refl, ap, ◌∙◌, false, ◌&&◌, List, [], arith, length, get_or, set, replicate, take, get_or-take, length-take-le}
 use mathlib.Core.Bool.{and-false}
 use Rattle.std.proofs.Common.{Option, None}
 use lib.ListN.{length-replicate, get_or-eq_default}
@@ -10,6 +10,7 @@ use Rattle.laws.proofs.Finding.{find_none}
 use Rattle.tags.specs.Tag.{Call, is_wrapper}
 use Rattle.fields.specs.Field.{Field, Fields, fields, nothing, nth}
 use Rattle.fields.specs.Table.{Listed, fields_at}
+use Rattle.fields.specs.declared.table.Table.{Table}
 use Rattle.model.specs.Model.{body, state_names}
 use Rattle.walking.specs.Walking.{peel, ident, body_exprs, payouts, is_payout}
 use Rattle.walking.specs.Table.{most_fields, placed_at, places_of}
@@ -20,7 +21,7 @@ use Rattle.guards.specs.Asked.{asked_token, paid_at, asked_amount}
 use Rattle.entries.specs.Calls.{places_where}
 use Rattle.entries.specs.Entered.{entry_of, CallsOf, Lent}
 use Rattle.entries.proofs.Called.{where-counted, where-read, payouts-where}
-use Rattle.entries.proofs.Reading.{calls-fit, calls-part, calls-all, places-few, table-long, field-there}
+use Rattle.entries.proofs.Reading.{calls-all, places-few, table-long, field-there}
 use Rattle.reserves.specs.Reserves.{reserve_covers, reserve_bounding_payout}
 use Rattle.reserves.specs.Covers.{index_in, asked_reserve}
 use Rattle.claim.specs.Claim.{payout_at}
@@ -51,15 +52,9 @@ module _ (file : List ℕ) (place : ℕ) (small : length file ≤ 32768) where
   table-lent : place ≤ length file → Lent file place (replicate most_fields 0)
   table-lent h = record { small = small; inside = h; room = omega (arith, small, length-replicate {A = ℕ} most_fields 0) }
 
-  module _ (inside : place ≤ length file) (calls : List ℕ) (count : ℕ) (l : Listed (places_of Call (body_exprs (placed_at file place))) (replicate most_fields 0) 0 calls count) where
-    pub all_fit : count ≤ length calls
-    all_fit = calls-fit file place (replicate most_fields 0) (table-lent inside) calls count l
-
-    pub all-part : count ≡ length (take count calls)
-    all-part = calls-part file place (replicate most_fields 0) (table-lent inside) calls count l
-
-    pub all-calls : CallsOf file place (take count calls)
-    all-calls = calls-all file place (replicate most_fields 0) (table-lent inside) calls count l
+  pub all-calls : place ≤ length file → (body : Table ℕ) → Listed (places_of Call (body_exprs (placed_at file place))) (replicate most_fields 0) 0 body.items.now body.count →
+      (calls : List ℕ) → calls ≡ take body.count body.items.now → CallsOf file place calls
+  all-calls inside body l calls e = calls-all file place (replicate most_fields 0) (table-lent inside) body l calls e
 
 pub alone-asked : (file payouts : List ℕ) (place k x : ℕ) → x ≡ get_or payouts k 0 → (r : Option ℕ) →
     r ≡ asked_reserve file place (set (replicate 65 0) 0 x) 0 →
@@ -89,9 +84,12 @@ module _ (file : List ℕ) (place : ℕ) (calls : List ℕ) (c : CallsOf file pl
   read : fields_at file (take m table) ≡ payouts entry
   read = where-read file place calls c is_payout payout-call (replicate most_fields 0) table m p few ∙ payouts-where (placed_at file place)
 
-  pub payout-among : (k : ℕ) → k < m → k < length table
-  payout-among k h = omega (arith, h, table-long file table m (payouts entry) read counted)
+  module _ (ps : List ℕ) (e : ps ≡ take m table) (k : ℕ) (h : k < m) where
+    pub payout-among : k < length ps
+    payout-among = rw e (omega (arith, h, length-take-le m table (table-long file table m (payouts entry) read counted)))
 
-  pub payout-found : (k : ℕ) → k < m → (r : Option ℕ) → r ≡ asked_reserve file place table k → r ≡ index_in model (payout_reserve model entry k)
-  unfolding payout_reserve asked_token asked_amount paid_at
-  payout-found k h r j = j ∙ rw (field-there file table m (payouts entry) read counted k h)
+    pub payout-found : (r : Option ℕ) → r ≡ asked_reserve file place ps k → r ≡ index_in model (payout_reserve model entry k)
+    unfolding payout_reserve asked_token asked_amount paid_at
+    payout-found r j =
+        let same : get_or ps k 0 ≡ get_or table k 0 = rw e (get_or-take m table k 0 h) in
+        j ∙ rw (same, field-there file table m (payouts entry) read counted k h)

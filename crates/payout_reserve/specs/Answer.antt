@@ -1,14 +1,14 @@
 -- The answer about the state field that covers a payout by itself: questions 1 to 9 come first, as they do before
 -- a verdict.
 use Rattle.std.specs.Prelude.{ℕ, List}
-use Rattle.std.specs.Prelude.{Option, None, Some}
+use Rattle.std.specs.Prelude.{Option, None, Some, Result, Ok, Err}
 use Rattle.fields.specs.Field.{Fields, fields}
 use Rattle.questions.specs.Questions.{passes, fails, ask_file}
+use Rattle.questions.specs.Answers.{number_of}
+use Rattle.questions.specs.declared.question.Refusal.{Refusal}
 use Rattle.reserves.specs.States.{state_index}
 use Rattle.claim.specs.Verdict.{entry_at, ask_exists}
 use Rattle.claim.specs.Reserve.{payout_reserve}
-use Rattle.payout_reserve.specs.declared.ReserveAnswer.{ReserveAnswer as CodedAnswer}
-use Rattle.payout_reserve.specs.declared.ReserveAnswer.TheVariants as coded
 
 -- a "no" to a question; the number of the state field that covers the payout, counted from 0 among all; or that none does
 pub data ReserveAnswer : Type 0 where
@@ -38,7 +38,7 @@ file_reserve file n k =
     ]
 
 -- each case of the answer that the code gives
-abbrev pub answer_of : CodedAnswer → ReserveAnswer
-answer_of (coded.Refused number place) = refused number place
-answer_of (coded.Covered index) = covered index
-answer_of coded.Uncovered = uncovered
+abbrev pub answer_of : Result (Option ℕ) Refusal → ReserveAnswer
+answer_of (Ok (Some index)) = covered index
+answer_of (Ok None) = uncovered
+answer_of (Err refusal) = refused (number_of refusal.question) refusal.place

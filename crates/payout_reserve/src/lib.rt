@@ -5,26 +5,27 @@
 
 ghost use Rattle.std.specs.Prelude.{◌≡◌, ◌≤◌, ◌<◌, length};
 ghost use Rattle.fields.specs.Field.{fields};
-ghost use Rattle.reserves.specs.Covers.{index_of, index_in, asked_reserve};
+ghost use Rattle.reserves.specs.Covers.{index_in, asked_reserve};
 ghost use Rattle.entries.specs.Entered.{entry_of, CallsOf};
 ghost use Rattle.claim.specs.Reserve.{payout_reserve};
 ghost use Rattle.payout_reserve.specs.Answer.{entry_reserve, file_reserve, answer_of};
 
-use entries::calls::list_payouts;
+use entries::calls::list_where;
 use entries::entry::Entry;
 use fundings::facts::nothing_known;
-use questions::check::Answer;
 use questions::file::check_file;
-use reserves::covering::{Reserve, reserve_bounding_payout};
+use questions::question::{Question, Refusal};
+use reserves::covering::reserve_bounding_payout;
 use tags::CALL;
-use verdict::entry::{Place, place_of_entry};
+use verdict::entry::place_of_entry;
+use walking::shape::is_payout;
 use walking::walk::{MOST_FIELDS, list_body};
 
 // That of the k-th payout of a table, in the entry at a place of the file, by itself.
-fn reserve_for(file: &[u8], place: usize, payouts: &[u16], k: usize) -> Reserve
+fn reserve_for(file: &[u8], place: usize, payouts: &[u16], k: usize) -> Option<usize>
     requires short { length file.now ≤ 32768 }
     requires among { k < length payouts.now }
-    ensures { index_of result ≡ asked_reserve file.now place payouts.now k }
+    ensures { result ≡ asked_reserve file.now place payouts.now k }
 {
     let mut paid = [0u16; 65];
     paid[0] = payouts[k];
@@ -42,64 +43,49 @@ fn reserve_for(file: &[u8], place: usize, payouts: &[u16], k: usize) -> Reserve
 }
 
 // That of the k-th payout among the calls of the entry at a place of the file.
-fn reserve_among(file: &[u8], place: usize, calls: &[u16], k: usize) -> Reserve
+fn reserve_among(file: &[u8], place: usize, calls: &[u16], k: usize) -> Option<usize>
     requires { CallsOf file.now place calls.now }
-    ensures { index_of result ≡ index_in (fields file.now) (payout_reserve (fields file.now) (entry_of file.now place) k) }
+    ensures { result ≡ index_in (fields file.now) (payout_reserve (fields file.now) (entry_of file.now place) k) }
 {
-    let mut payouts = [0u16; MOST_FIELDS];
-    let count = list_payouts(file, calls, &mut payouts);
-    if count <= k {
-        return Reserve::Nothing;
+    let mut table = [0u16; MOST_FIELDS];
+    let payouts = list_where(file, calls, is_payout, &mut table);
+    if payouts.count <= k {
+        return None;
     }
-    reserve_for(file, place, &payouts, k)
+    reserve_for(file, place, payouts.listed(), k)
 }
 
 // That of the k-th payout of the entry at a place of the file. There is room for every call of a file that passes question 1,
 // and so for every payout.
-fn reserve_at(file: &[u8], place: usize, k: usize) -> Reserve
+fn reserve_at(file: &[u8], place: usize, k: usize) -> Option<usize>
     requires short { length file.now ≤ 32768 }
     requires inside { place ≤ length file.now }
-    ensures { index_of result ≡ index_in (fields file.now) (payout_reserve (fields file.now) (entry_of file.now place) k) }
+    ensures { result ≡ index_in (fields file.now) (payout_reserve (fields file.now) (entry_of file.now place) k) }
 {
-    let mut calls = [0u16; MOST_FIELDS];
-    let count = list_body(file, place, CALL, &mut calls);
-    reserve_among(file, place, &calls[..count], k)
+    let mut table = [0u16; MOST_FIELDS];
+    let calls = list_body(file, place, CALL, &mut table);
+    reserve_among(file, place, calls.listed(), k)
 }
 
-// A "no" to a question; the number of the state field that covers the payout, counted from 0; or that none does.
-#[derive(Drop)]
-pub enum ReserveAnswer {
-    Refused { number: u8, place: usize },
-    Covered { index: usize },
-    Uncovered,
-}
+// The number of the state field that covers the payout, counted from 0, if one does; or a "no" to a question.
+pub type ReserveAnswer = Result<Option<usize>, Refusal>;
 
 // The answer about the k-th payout of the n-th entry of a file that passes questions 1 to 8: question 9 comes first.
 fn entry_reserve(file: &[u8], n: usize, k: usize) -> ReserveAnswer
     requires { length file.now ≤ 32768 }
     ensures { answer_of result ≡ entry_reserve (fields file.now) n k }
 {
-    match place_of_entry(file, n) {
-        Place::Nowhere => ReserveAnswer::Refused {
-            number: 9,
-            place: 0,
-        },
-        Place::At { place } => match reserve_at(file, place, k) {
-            Reserve::Covers { index } => ReserveAnswer::Covered { index: index },
-            Reserve::Nothing => ReserveAnswer::Uncovered,
-        },
-    }
+    let place = place_of_entry(file, n).ok_or(Refusal {
+        question: Question::EntryNumber,
+        place: 0,
+    })?;
+    Ok(reserve_at(file, place, k))
 }
 
 // The same of any file: questions 1 to 9 come first. Both numbers are counted from 0.
 pub fn payout_reserve(file: &[u8], n: usize, k: usize) -> ReserveAnswer
     ensures { answer_of result ≡ file_reserve file.now n k }
 {
-    match check_file(file) {
-        Answer::Refused { number, place } => ReserveAnswer::Refused {
-            number: number,
-            place: place,
-        },
-        Answer::Passes => entry_reserve(file, n, k),
-    }
+    check_file(file)?;
+    entry_reserve(file, n, k)
 }

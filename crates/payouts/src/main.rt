@@ -2,7 +2,6 @@
 // Reads a model file from standard input, and writes its listing to standard output.
 #![tactic(auto)]
 
-use fields::bytes::keep;
 use listing::lines::listing;
 use std::io::{self, Read, Write};
 
@@ -17,5 +16,5 @@ fn main(rt: HostRuntime) -> io::Result<()> {
     rt.reader().take(MOST_READ).read_to_end(&mut file)?;
     let mut buffer = [0u8; MOST_WRITTEN];
     let length = listing(&file, &mut buffer);
-    io::writer(&rt).write_all(keep(&buffer, length))
+    io::writer(&rt).write_all(&buffer[..length])
 }

@@ -1,8 +1,8 @@
 -- The questions of a field by its tag and content, and of a row of fields one at a time.
 use Rattle.std.proofs.Common.{ℕ, suc, ◌+◌, ◌-◌, ◌*◌, ◌≤◌, ◌<◌, ◌≡◌, refl, sym, ap, ap₂, ◌∙◌, Bool, true, false, cond, not, ◌&&◌, ◌||◌, List, [], ◌∷◌, arith, add-zero, leb-true, leb-false}
 use Rattle.std.proofs.Common.{lt-ltb, le-ltb, ltb-false, leb, ltb, length, take, drop}
-use Rattle.std.proofs.Common.{None, Some}
-use Rattle.laws.specs.Lists.{all}
+use Rattle.std.proofs.Common.{Option, None, Some, Ok}
+use Rattle.std.specs.Option.{option_map}
 use Rattle.laws.specs.Texts.{known}
 use Rattle.laws.proofs.Numbers.{implied}
 use Rattle.tags.specs.Tag.{is_expression, is_text, composite}
@@ -17,16 +17,13 @@ use Rattle.fields.proofs.Places.{front-size, content-length}
 use Rattle.fields.proofs.Parts.{tag-front}
 use Rattle.cursor.proofs.Steps.{PartFound, part-is, cut-is, end_is}
 use Rattle.grammar.specs.Grammar.{grammar, slots_in, slots_of, advance, complete}
-use Rattle.grammar.specs.Slots.{slot_list, left_by}
+use Rattle.grammar.specs.Slots.{slot_list}
 use Rattle.questions.specs.Questions.{Asked, ◌and_then◌, ask, content_allowed, depth_inside, ask_field, ask_fields}
 use Rattle.questions.specs.Questions.Asked.{passes, fails}
-use Rattle.questions.specs.Answers.{asked}
+use Rattle.questions.specs.Answers.{Answered, refused, asked}
 use Rattle.questions.specs.Room.{Room}
 use Rattle.grammar.specs.declared.Slots.{Slots}
-use Rattle.grammar.specs.declared.Advanced.{Advanced}
-use Rattle.grammar.specs.declared.Advanced.TheVariants as advanced
-use Rattle.questions.specs.declared.check.Answer.{Answer}
-use Rattle.questions.specs.declared.check.Answer.TheVariants as answer
+use Rattle.questions.specs.declared.question.Question.TheVariants as question
 
 -- a field with parts has no text, and one without needs no parts
 no_text : (t : ℕ) → t < 256 → composite t ≡ true → content_allowed t [] ≡ true
@@ -64,7 +61,7 @@ module _ (t : ℕ) (l : t < 256) (x : List ℕ) (place depth : ℕ) where
 
   -- what the code tests: an expression that is too deep
   module _ (v : Bool) (f : v ≡ is_expression t) where
-    pub too-deep : v && ltb 32 depth ≡ true → asked (answer.Refused 4 place) ≡ ask_field depth place (field_with t x)
+    pub too-deep : v && ltb 32 depth ≡ true → asked (refused question.Depth place) ≡ ask_field depth place (field_with t x)
     too-deep h = rw (field-by, ← f, depth-test v depth, h)
 
     module _ (h : v && ltb 32 depth ≡ false) where
@@ -73,15 +70,15 @@ module _ (t : ℕ) (l : t < 256) (x : List ℕ) (place depth : ℕ) where
       not-deep = rw (field-by, ← f, depth-test v depth, h)
 
       module _ (w : Bool) (g : w ≡ composite t) where
-        pub goes_in : w ≡ true → (d : ℕ) → d ≡ depth_inside t depth → (r : Answer) →
+        pub goes_in : w ≡ true → (d : ℕ) → d ≡ depth_inside t depth → (r : Answered) →
             asked r ≡ ask_fields (slots_of t) place d (place + 3) (fields x) → asked r ≡ ask_field depth place (field_with t x)
         goes_in k d e r q = rw (not-deep, ← g, k, ← e) q
 
         module _ (k : w ≡ false) (b : Bool) (e : b ≡ content_allowed t x) where
-          pub allowed : b ≡ true → asked answer.Passes ≡ ask_field depth place (field_with t x)
+          pub allowed : b ≡ true → asked (Ok tt) ≡ ask_field depth place (field_with t x)
           allowed i = rw (not-deep, ← g, k, ← e, i)
 
-          pub not-allowed : b ≡ false → asked (answer.Refused 5 place) ≡ ask_field depth place (field_with t x)
+          pub not-allowed : b ≡ false → asked (refused question.Content place) ≡ ask_field depth place (field_with t x)
           not-allowed i = rw (not-deep, ← g, k, ← e, i)
 
       -- inside, the depth is at most one past the limit
@@ -135,7 +132,7 @@ module _ (outer : ℕ) (x : List ℕ) (place start depth : ℕ) (slots : Slots) 
   asking-all e = record { within = omega arith; left = rw (add-zero start, e) }
 
   module _ (at : ℕ) (i : Asking outer x place start depth slots at) (r : Part) (p : r ≡ part_at x at) where
-    pub asking-cut : r ≡ part.Cut → asked (answer.Refused 2 (start + at)) ≡ ask_fields (slots_of outer) place depth start (fields x)
+    pub asking-cut : r ≡ part.Cut → asked (refused question.FieldEnd (start + at)) ≡ ask_fields (slots_of outer) place depth start (fields x)
     asking-cut f =
         let (w, h) = cut-is x at r p f in
         sym (row_cut (slot_list slots) place depth (start + at) (drop at x) w h) ∙ i.left
@@ -146,10 +143,10 @@ module _ (outer : ℕ) (x : List ℕ) (place start depth : ℕ) (slots : Slots) 
       unfolding ask_fields
       at-end = rw (end_is x at r p f, fields-end [] refl, ← c) at i.left
 
-      pub asking-complete : v ≡ true → asked answer.Passes ≡ ask_fields (slots_of outer) place depth start (fields x)
+      pub asking-complete : v ≡ true → asked (Ok tt) ≡ ask_fields (slots_of outer) place depth start (fields x)
       asking-complete e = rw e at at-end
 
-      pub asking-incomplete : v ≡ false → asked (answer.Refused 6 place) ≡ ask_fields (slots_of outer) place depth start (fields x)
+      pub asking-incomplete : v ≡ false → asked (refused question.NeededParts place) ≡ ask_fields (slots_of outer) place depth start (fields x)
       asking-incomplete e = rw e at at-end
 
     module _ (t a b : ℕ) (n : Cursor) (f : r ≡ part.Found t a b n) where
@@ -173,25 +170,27 @@ module _ (outer : ℕ) (x : List ℕ) (place start depth : ℕ) (slots : Slots) 
       pub asking-room : Room x start depth → (y : List ℕ) → y ≡ take (b - a) (drop a x) → Room y (start + at + 3) depth
       asking-room m y e = record { places = rw (e, found.holds) (omega (arith, m.places, found.stops, found.within, content-length (drop at x) found.is_whole)); depths = m.depths }
 
-      module _ (q : Advanced) (e : left_by q ≡ advance (slot_list slots) t) where
-        by-tag : advance (slot_list slots) (tag_of (drop at x)) ≡ left_by q
+      module _ (q : Option Slots) (e : option_map slot_list q ≡ advance (slot_list slots) t) where
+        by-tag : advance (slot_list slots) (tag_of (drop at x)) ≡ option_map slot_list q
         by-tag = rw (← found.has-tag) (sym e)
 
-        pub asking-tag : q ≡ advanced.Refused → asked (answer.Refused 3 (start + at)) ≡ ask_fields (slots_of outer) place depth start (fields x)
+        pub asking-tag : q ≡ None → asked (refused question.TagPlace (start + at)) ≡ ask_fields (slots_of outer) place depth start (fields x)
         asking-tag h =
-            sym (row-refused (slot_list slots) place depth (start + at) (drop at x) found.is_whole (by-tag ∙ ap left_by h)) ∙ i.left
+            sym (row-refused (slot_list slots) place depth (start + at) (drop at x) found.is_whole (by-tag ∙ ap (option_map slot_list) h)) ∙ i.left
 
-        module _ (ss : Slots) (h : q ≡ advanced.To ss) (y : List ℕ) (j : y ≡ take (b - a) (drop a x)) (u : Answer)
-            (k : asked u ≡ ask_field depth (start + at) (field_with t y)) where
-          step : (asked u and_then ask_fields (slot_list ss) place depth (start + at + (3 + length_of (drop at x))) (fields (after (drop at x))))
+        module _ (ss : Slots) (h : q ≡ Some ss) (y : List ℕ) (j : y ≡ take (b - a) (drop a x)) (u : Asked)
+            (k : u ≡ ask_field depth (start + at) (field_with t y)) where
+          step : (u and_then ask_fields (slot_list ss) place depth (start + at + (3 + length_of (drop at x))) (fields (after (drop at x))))
               ≡ ask_fields (slots_of outer) place depth start (fields x)
           step = rw (k, j, found.holds, found.has-tag)
-              (sym (row-goes-on (slot_list slots) place depth (start + at) (drop at x) found.is_whole (slot_list ss) (by-tag ∙ ap left_by h)) ∙ i.left)
+              (sym (row-goes-on (slot_list slots) place depth (start + at) (drop at x) found.is_whole (slot_list ss) (by-tag ∙ ap (option_map slot_list) h)) ∙ i.left)
 
-          pub asking-no : (m z : ℕ) → u ≡ answer.Refused m z → asked (answer.Refused m z) ≡ ask_fields (slots_of outer) place depth start (fields x)
-          asking-no m z o = rw o at step
+        -- the "no" of a field is that of the row, and behind a field that passes the row goes on
+        module _ (ss : Slots) (h : q ≡ Some ss) (y : List ℕ) (j : y ≡ take (b - a) (drop a x)) where
+          pub asking-no : (m z : ℕ) → fails m z ≡ ask_field depth (start + at) (field_with t y) → fails m z ≡ ask_fields (slots_of outer) place depth start (fields x)
+          asking-no m z k = step ss h y j (fails m z) k
 
-          pub asking-on : u ≡ answer.Passes → Asking outer x place start depth ss n.at
-          asking-on o =
+          pub asking-on : passes ≡ ask_field depth (start + at) (field_with t y) → Asking outer x place start depth ss n.at
+          asking-on k =
               let d : start + at + (3 + length_of (drop at x)) ≡ start + n.at = omega (arith, found.stops, found.moves) in
-              record { within = omega (arith, found.within, found.moves); left = rw (o, d, ← found.leaves) at step }
+              record { within = omega (arith, found.within, found.moves); left = rw (d, ← found.leaves) at (step ss h y j passes k) }

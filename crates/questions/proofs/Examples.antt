@@ -1,6 +1,5 @@
 -- Questions 1 to 8 computed: each number with its place, and each boundary on both sides.
 use Rattle.std.proofs.Common.{ℕ, ◌≡◌, refl, List, [], ◌∷◌, ◌++◌, map, replicate}
-use Rattle.laws.specs.Lists.{any, all, filter}
 use Rattle.laws.specs.Texts.{same_bytes, known}
 use Rattle.tags.specs.Tag.{State, Genesis, Entry, Parameter, Limits, Denies, Guard, Let, Emit, Set, ExpressionStatement, Name}
 use Rattle.tags.specs.Tag.{Date, String, Caller, InAsset, Member, Call, Eq, is_item, is_clause, is_statement, is_expression, is_text}

@@ -1,11 +1,15 @@
 -- Question 7 along the file: the names that came earlier are those of the bytes before, and the table shows them.
-use Rattle.std.proofs.Common.{ℕ, ◌+◌, ◌-◌, ◌*◌, ◌^◌, ◌≤◌, ◌<◌, ◌≡◌, refl, sym, ap, ◌∙◌, Bool, true, false, cond, not, ◌&&◌, List, [], ◌∷◌, ◌++◌, map, append-nil, arith, leb-true, w64, Fits, eqb}
+use Rattle.std.proofs.Common.{ℕ, ◌+◌, ◌-◌, ◌*◌, ◌≤◌, ◌≡◌, refl, sym, ap, ◌∙◌, Bool, true, false, cond, not, ◌&&◌, List, [], ◌∷◌, ◌++◌, map, append-nil, arith, leb-true, eqb, Some, None, Ok}
 use Rattle.std.proofs.Common.{length, take, drop, length-drop, drop-drop}
 use mathlib.Core.List.{map-append}
-use Rattle.laws.specs.Lists.{any, filter}
+use borrow.Author.Tests.{not-true, not-false}
+use Rattle.laws.specs.Lists.{any}
 use Rattle.laws.specs.Texts.{same_bytes}
 use Rattle.tags.specs.Tag.{State, between}
 use Rattle.fields.specs.Field.{Placed, fields, tag_of, length_of, whole, after, front, tag, placed, placed_from, row, fields_from}
+use Rattle.fields.specs.Row.{Step}
+use Rattle.fields.specs.declared.field.Fields.{Fields}
+use Rattle.fields.specs.declared.field.Field.{Field as Found}
 use Rattle.tags.proofs.Ranges.{between-one}
 use Rattle.fields.proofs.Reading.{fields-next, fields-end}
 use Rattle.fields.proofs.Places.{front-size}
@@ -14,11 +18,9 @@ use Rattle.fields.proofs.Prefix.{end_of, prefix-ends, prefix-from}
 use Rattle.model.specs.Model.{name_of, states, state_names}
 use Rattle.questions.specs.Noted.{shows_front, with_front}
 use Rattle.questions.specs.Questions.{ask, ◌and_then◌, ask_names}
-use Rattle.questions.specs.Answers.{asked}
-use Rattle.questions.specs.declared.check.Answer.{Answer}
-use Rattle.questions.specs.declared.check.Answer.TheVariants as answer
+use Rattle.questions.specs.Answers.{Answered, refused, asked}
+use Rattle.questions.specs.declared.question.Question.TheVariants as question
 use Rattle.questions.specs.Compared.{Decided}
-use Rattle.questions.specs.declared.names.Compared.TheVariants as compared
 use Rattle.questions.proofs.Noting.{Noted, names_with, repeats, noted-none, noted-front, unseen, seen}
 
 -- t stands at a place of the file, behind whole fields, and the table is the one that was lent, with their names; each of them
@@ -32,9 +34,9 @@ pub record Naming (file lent table t : List ℕ) (base at alarms : ℕ) : Type 0
   pub noted : Noted base (state_names (fields (take at file))) table
   pub room : 3 * alarms ≤ at
 
-pub naming-all : (file lent : List ℕ) (base : ℕ) → Naming file lent lent file base 0 0
+naming-start : (file lent : List ℕ) (base : ℕ) → Naming file lent lent file base 0 0
 unfolding states state_names fields_from end_of row
-naming-all file lent base = record {
+naming-start file lent base = record {
   within = omega arith;
   here = refl;
   ends = rw (fields-end [] refl);
@@ -43,6 +45,9 @@ naming-all file lent base = record {
   noted = rw (fields-end [] refl) (noted-none base lent);
   room = omega arith;
 }
+
+pub naming-all : (file lent : List ℕ) (base : ℕ) (s : Fields) → s.rest.now ≡ file → s.place ≡ 0 → Naming file lent lent s.rest.now base s.place 0
+naming-all file lent base s e f = rw (e, f) (naming-start file lent base)
 
 -- one field: a state field is asked about and joins the earlier ones, any other is passed over
 module _ (file : List ℕ) (at : ℕ) (e : end_of (fields (take at file)) ≡ []) (w : whole (drop at file) ≡ true) where
@@ -88,62 +93,68 @@ module _ (file : List ℕ) (at : ℕ) (e : end_of (fields (take at file)) ≡ []
       go earlier ps false = rw append-nil
 
 -- an answer to question 7 is right
-right-answer : (file : List ℕ) (allowed : ℕ) (a : Answer) → asked a ≡ ask_names [] (states (fields file)) → Decided file allowed (compared.All a)
+right-answer : (file : List ℕ) (allowed : ℕ) (a : Answered) → asked a ≡ ask_names [] (states (fields file)) → Decided file allowed (Some a)
 right-answer file allowed a e = record { answers = λ b f. cc (e, f); crowds = λ f. cc }
 
-module _ (file lent table t : List ℕ) (base at alarms : ℕ) (i : Naming file lent table t base at alarms) where
-  pub naming-done : whole t ≡ false → (allowed : ℕ) → Decided file allowed (compared.All answer.Passes)
+module _ (file lent table : List ℕ) (base alarms : ℕ) (s : Fields) (i : Naming file lent table s.rest.now base s.place alarms) where
+  pub naming-done : whole s.rest.now ≡ false → (allowed : ℕ) → Decided file allowed (Some (Ok tt))
   unfolding ask_names placed_from placed
-  naming-done w allowed = right-answer file allowed answer.Passes (rw (fields-end t w) at i.left)
+  naming-done w allowed = right-answer file allowed (Ok tt) (rw (fields-end s.rest.now w) at i.left)
 
-  module _ (v : Bool) (o : v ≡ whole t) (w : v ≡ true) where
-    is_whole : whole (drop at file) ≡ true
-    is_whole = rw (← i.here) (sym o ∙ w)
+  -- a field, with what is left behind it
+  module _ (p : Found) (t : Fields) (h : Step s p t) where
+    abbrev names-before : List (List ℕ)
+    names-before = state_names (fields (take s.place file))
 
-    fits : 3 + length_of t ≤ length file - at
-    fits = rw (← length-drop at file, ← i.here) (leb-true (3 + length_of t) (length t) (sym o ∙ w))
+    is_whole : whole (drop s.place file) ≡ true
+    is_whole = rw (← i.here) h.there
 
-    pub naming-in-range : (n : ℕ) → n ≡ length_of t → length file < 2 ^ 64 → Fits w64 (at + (3 + n))
-    naming-in-range n e h = let l = fits in rw e (omega arith)
+    fits : 3 + length_of s.rest.now ≤ length file - s.place
+    fits = rw (← length-drop s.place file, ← i.here) (leb-true (3 + length_of s.rest.now) (length s.rest.now) h.there)
 
-    pub naming-crowded : (allowed : ℕ) → alarms ≡ allowed → Decided file allowed compared.Crowded
+    pub naming-crowded : (allowed : ℕ) → alarms ≡ allowed → Decided file allowed None
     naming-crowded allowed e = record { answers = λ a f. cc; crowds = λ f. let l = fits in let r = i.room in omega (arith, e) }
 
-    step : (b : Bool) → repeats (state_names (fields (take at file))) t ≡ b →
-        (ask (not b) 7 at and_then ask_names (state_names (fields (take (at + (3 + length_of t)) file))) (placed_from State State (at + (3 + length_of t)) (fields (after t))))
+    step : (b : Bool) → repeats names-before s.rest.now ≡ b →
+        (ask (not b) 7 s.place and_then ask_names (state_names (fields (take t.place file))) (placed_from State State t.place (fields t.rest.now)))
         ≡ ask_names [] (states (fields file))
     step b q =
-        rw (← q, i.here) (sym (name-step file at i.ends is_whole))
+        rw (h.behind, h.rest, ← q, i.here) (sym (name-step file s.place i.ends is_whole))
         ∙ (rw i.here at i.left)
 
     -- behind a field that repeats no earlier name: its name is in the table, and there is at most one false alarm more
-    further : repeats (state_names (fields (take at file))) t ≡ false → (n : ℕ) → n ≡ length_of t → (u : List ℕ) → u ≡ after t →
-        (last : List ℕ) → length last ≡ length table → last ≡ with_front base t table → (m : ℕ) → m ≤ alarms + 1 →
-        Naming file lent last u base (at + (3 + n)) m
-    further q n e u f last z k m h = let l = fits in let r = i.room in record {
-      within = rw e (omega arith);
-      here = rw (f, e, i.here, drop-drop);
-      ends = rw (e, i.here) (prefix-ends file at i.ends is_whole);
-      left = rw (e, f) (step false q);
+    further : repeats names-before s.rest.now ≡ false →
+        (last : List ℕ) → length last ≡ length table → last ≡ with_front base s.rest.now table → (m : ℕ) → m ≤ alarms + 1 →
+        Naming file lent last t.rest.now base t.place m
+    further q last z k m o = let l = fits in let r = i.room in record {
+      within = rw h.behind (omega arith);
+      here = rw (h.rest, h.behind, i.here, drop-drop);
+      ends = rw (h.behind, i.here) (prefix-ends file s.place i.ends is_whole);
+      left = step false q;
       wide = z ∙ i.wide;
-      noted = rw (e, k, i.here, names file at i.ends is_whole) (rw i.here at (noted-front base (state_names (fields (take at file))) table i.noted t));
-      room = rw e (omega arith);
+      noted = rw (h.behind, k, i.here, names file s.place i.ends is_whole) (rw i.here at (noted-front base names-before table i.noted s.rest.now));
+      room = rw h.behind (omega arith);
     }
 
-    module _ (b : Bool) (k : b ≡ shows_front base t table) where
-      pub naming-new : b ≡ false → (n : ℕ) → n ≡ length_of t → (u : List ℕ) → u ≡ after t →
-          (last : List ℕ) → length last ≡ length table → last ≡ with_front base t table → Naming file lent last u base (at + (3 + n)) alarms
-      naming-new h n e u f last z q =
-          further (unseen base (state_names (fields (take at file))) table i.noted t (sym k ∙ h)) n e u f last z q alarms (omega arith)
+    module _ (b : Bool) (k : b ≡ shows_front base p.part.now table) where
+      shown : shows_front base s.rest.now table ≡ b
+      shown = rw (← h.part) (sym k)
 
-      module _ (h : b ≡ true) (name : List ℕ) (p : name ≡ name_of (front t)) (before : List ℕ) (d : before ≡ take at file) (r : Bool)
+      pub naming-new : not b ≡ true →
+          (last : List ℕ) → length last ≡ length table → last ≡ with_front base p.part.now table → Naming file lent last t.rest.now base t.place alarms
+      naming-new o last z q =
+          further (unseen base names-before table i.noted s.rest.now (shown ∙ not-true b o)) last z (rw h.part at q) alarms (omega arith)
+
+      module _ (o : not b ≡ false) (name : List ℕ) (f : name ≡ name_of (front p.part.now)) (before : List ℕ) (d : before ≡ take p.place file) (r : Bool)
           (g : r ≡ any (same_bytes name) (state_names (fields before))) where
-        decides : repeats (state_names (fields (take at file))) t ≡ r
-        decides = seen base (state_names (fields (take at file))) table i.noted t (sym k ∙ h) ∙ rw (← p, ← d) (sym g)
+        decides : repeats names-before s.rest.now ≡ r
+        decides =
+            seen base names-before table i.noted s.rest.now (shown ∙ not-false b o)
+            ∙ (rw (f, d, h.part, h.place) at (sym g))
 
-        pub naming-repeated : r ≡ true → (allowed : ℕ) → Decided file allowed (compared.All (answer.Refused 7 at))
-        naming-repeated a allowed = right-answer file allowed (answer.Refused 7 at) (step true (decides ∙ a))
+        pub naming-repeated : r ≡ true → (allowed : ℕ) → Decided file allowed (Some (refused question.StateNames p.place))
+        naming-repeated a allowed = right-answer file allowed (refused question.StateNames p.place) (rw h.place (step true (decides ∙ a)))
 
-        pub naming-alarm : r ≡ false → (n : ℕ) → n ≡ length_of t → (u : List ℕ) → u ≡ after t →
-            (last : List ℕ) → length last ≡ length table → last ≡ with_front base t table → Naming file lent last u base (at + (3 + n)) (alarms + 1)
-        naming-alarm a n e u f last z q = further (decides ∙ a) n e u f last z q (alarms + 1) (omega arith)
+        pub naming-alarm : r ≡ false → (last : List ℕ) → length last ≡ length table → last ≡ with_front base p.part.now table →
+            Naming file lent last t.rest.now base t.place (alarms + 1)
+        naming-alarm a last z q = further (decides ∙ a) last z (rw h.part at q) (alarms + 1) (omega arith)

@@ -50,17 +50,17 @@ module _ (t : List ℕ) (n : ℕ) where
   unfolding held_at
   no_room h = get_or-eq_default t 255 h
 
-  pub no-room-shows : length t ≡ 0 → true ≡ shows t n
+  pub no-room-shows : eqb (length t) 0 ≡ true → true ≡ shows t n
   unfolding shows
-  no-room-shows z = sym (rw (no_room (omega arith)) (several-shows (note_of n)))
+  no-room-shows z = sym (rw (no_room (omega (arith, eqb-true (length t) 0 z))) (several-shows (note_of n)))
 
-  pub no-room-kept : length t ≡ 0 → t ≡ with_number t n
+  pub no-room-kept : eqb (length t) 0 ≡ true → t ≡ with_number t n
   unfolding with_number
-  no-room-kept z = sym (set_out t (table_place t n) (joined_note (held_at t n) (note_of n)) (omega arith))
+  no-room-kept z = sym (set_out t (table_place t n) (joined_note (held_at t n) (note_of n)) (omega (arith, eqb-true (length t) 0 z)))
 
-  module _ (d : length t ≡ 0 → ⊥) where
+  module _ (d : eqb (length t) 0 ≡ false) where
     pub has-place : table_place t n < length t
-    has-place = mod-lt (n / 262144) (omega arith)
+    has-place = let e = eqb-false (length t) 0 d in mod-lt (n / 262144) (omega arith)
 
     held : get_or t (table_place t n) 0 ≡ held_at t n
     unfolding held_at

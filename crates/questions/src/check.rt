@@ -7,26 +7,17 @@ ghost use Rattle.questions.specs.Answers.{asked};
 ghost use Rattle.questions.specs.Room.{Room};
 
 use super::content::content_allowed;
+use super::question::{Answer, Question, Refusal};
 use cursor::{Cursor, Part};
-use grammar::{Advanced, slots_of};
+use grammar::slots_of;
 use tags::{is_composite, is_expression};
-
-// All questions pass, or the first "no" with its number and place.
-#[derive(Drop)]
-pub enum Answer {
-    Passes,
-    Refused { number: u8, place: usize },
-}
 
 // The depth of an expression inside a field with this tag.
 fn depth_inside(tag: u8, depth: usize) -> usize
     requires { depth ≤ 33 }
     ensures { (result ≡ depth_inside tag depth) × (result ≤ depth + 1) }
 {
-    if is_expression(tag) {
-        return depth + 1;
-    }
-    1
+    if is_expression(tag) { depth + 1 } else { 1 }
 }
 
 // Questions 4 and 5 of the field with this tag and content at a place, then its parts.
@@ -36,21 +27,21 @@ fn check_field(tag: u8, content: &[u8], place: usize, depth: usize) -> Answer
     ensures { asked result ≡ ask_field depth place (field_with tag content.now) }
 {
     if is_expression(tag) & (32 < depth) {
-        return Answer::Refused {
-            number: 4,
+        return Err(Refusal {
+            question: Question::Depth,
             place: place,
-        };
+        });
     }
     if is_composite(tag) {
         return check_fields(tag, content, place, place + 3, depth_inside(tag, depth));
     }
     if content_allowed(tag, content) {
-        return Answer::Passes;
+        return Ok(());
     }
-    Answer::Refused {
-        number: 5,
+    Err(Refusal {
+        question: Question::Content,
         place: place,
-    }
+    })
 }
 
 // Questions 2 and 3 of each field in a content that stands at start, with all that is inside it, and 6 behind the last: its
@@ -71,36 +62,21 @@ fn check_fields(outer: u8, content: &[u8], holder: usize, start: usize, depth: u
                 end: to,
                 next,
             } => {
-                match slots.advance(tag) {
-                    Advanced::To(left) => {
-                        slots = left;
-                    }
-                    Advanced::Refused => {
-                        return Answer::Refused {
-                            number: 3,
-                            place: start + at,
-                        };
-                    }
-                }
-                match check_field(tag, &content[from..to], start + at, depth) {
-                    Answer::Passes => {}
-                    Answer::Refused {
-                        number,
-                        place: found,
-                    } => {
-                        return Answer::Refused {
-                            number: number,
-                            place: found,
-                        };
-                    }
-                }
+                let Some(left) = slots.advance(tag) else {
+                    return Err(Refusal {
+                        question: Question::TagPlace,
+                        place: start + at,
+                    });
+                };
+                slots = left;
+                check_field(tag, &content[from..to], start + at, depth)?;
                 cursor = next;
             }
             Part::Cut => {
-                return Answer::Refused {
-                    number: 2,
+                return Err(Refusal {
+                    question: Question::FieldEnd,
                     place: start + at,
-                };
+                });
             }
             Part::End => {
                 break;
@@ -108,12 +84,12 @@ fn check_fields(outer: u8, content: &[u8], holder: usize, start: usize, depth: u
         }
     }
     if slots.is_complete() {
-        return Answer::Passes;
+        return Ok(());
     }
-    Answer::Refused {
-        number: 6,
+    Err(Refusal {
+        question: Question::NeededParts,
         place: holder,
-    }
+    })
 }
 
 // Questions 1 to 6.
@@ -121,10 +97,10 @@ pub fn check_form(file: &[u8]) -> Answer
     ensures { asked result ≡ ask_form file.now }
 {
     if 32768 < file.len() {
-        return Answer::Refused {
-            number: 1,
+        return Err(Refusal {
+            question: Question::FileLength,
             place: 0,
-        };
+        });
     }
     check_fields(0, file, 0, 0, 1)
 }

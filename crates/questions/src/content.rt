@@ -10,26 +10,16 @@ use tags::{INTEGER, STRING, is_text};
 fn is_printable(text: &[u8]) -> bool
     ensures { result ≡ all (between 0x20 0x7E) text.now }
 {
-    let mut i = 0;
-    while i < text.len() {
-        let byte = text[i];
-        if !((0x20 <= byte) & (byte <= 0x7E)) {
-            return false;
-        }
-        i += 1;
-    }
-    true
+    text.iter().all(|&byte| matches!(byte, 0x20..=0x7E))
 }
 
 // Whether the content of a field that has no parts obeys the rules.
+#[tactic(auto, unfolding(crate::specs::Questions::content_allowed, laws::specs::Texts::known))]
 pub fn content_allowed(tag: u8, content: &[u8]) -> bool
     ensures { result ≡ content_allowed tag content.now }
 {
     if !is_text(tag) {
-        return content.len() == 0;
+        return content.is_empty();
     }
-    if content.len() == 0 {
-        return (INTEGER <= tag) & (tag <= STRING);
-    }
-    is_printable(content)
+    is_printable(content) & (!content.is_empty() | matches!(tag, INTEGER..=STRING))
 }

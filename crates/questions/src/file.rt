@@ -5,40 +5,29 @@ ghost use Rattle.model.specs.Model.{entries};
 ghost use Rattle.questions.specs.Questions.{at_most, ask_file};
 ghost use Rattle.questions.specs.Answers.{asked};
 
-use super::check::{Answer, check_form};
+use super::check::check_form;
 use super::names::check_names;
-use fields::front::nth_from;
-use tags::ENTRY;
+use super::question::{Answer, Question, Refusal};
+use model::nth_entry;
 
 // Question 8: at most 64 entries?
 fn check_entries(file: &[u8]) -> Answer
     ensures { asked result ≡ at_most 64 8 (entries (fields file.now)) }
 {
-    let entry = nth_from(file, ENTRY, ENTRY, 64);
-    if entry.len() == 0 {
-        return Answer::Passes;
-    }
-    Answer::Refused {
-        number: 8,
-        place: file.len() - entry.len(),
+    match nth_entry(file, 64) {
+        None => Ok(()),
+        Some(entry) => Err(Refusal {
+            question: Question::EntryCount,
+            place: entry.place,
+        }),
     }
 }
 
-// Any bytes, of any length: all questions pass, or the first "no" with its number and place.
+// Any bytes, of any length: all questions pass, or the first "no".
 pub fn check_file(file: &[u8]) -> Answer
     ensures { asked result ≡ ask_file file.now }
 {
-    if let Answer::Refused { number, place } = check_form(file) {
-        return Answer::Refused {
-            number: number,
-            place: place,
-        };
-    }
-    if let Answer::Refused { number, place } = check_names(file) {
-        return Answer::Refused {
-            number: number,
-            place: place,
-        };
-    }
+    check_form(file)?;
+    check_names(file)?;
     check_entries(file)
 }

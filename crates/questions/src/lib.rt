@@ -2,6 +2,8 @@
 #![tactic(auto)]
 
 pub mod check;
+mod comparison;
 pub mod content;
 pub mod file;
 pub mod names;
+pub mod question;

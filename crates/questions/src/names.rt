@@ -1,6 +1,6 @@
 // Question 7: are state names different? Names that came before are noted in a table, by numbers made of their bytes, and a
 // name is compared with them only where the table shows its number.
-ghost use Rattle.std.specs.Prelude.{◌≡◌, ◌<◌, []};
+ghost use Rattle.std.specs.Prelude.{◌≡◌, ◌<◌, ◌*◌, ◌^◌, []};
 ghost use Rattle.fields.specs.Field.{fields};
 ghost use Rattle.model.specs.Model.{states};
 ghost use Rattle.questions.specs.Noted.{joined_note, shows, with_number, shows_front, with_front};
@@ -8,10 +8,12 @@ ghost use Rattle.questions.specs.Questions.{ask_names};
 ghost use Rattle.questions.specs.Answers.{asked};
 ghost use Rattle.questions.specs.Compared.{Decided};
 
-use super::check::Answer;
+use super::comparison::Comparison;
+use super::question::{Answer, Question, Refusal};
 use fields::bytes::keep;
-use fields::front::{after_front, front_tag, is_whole, length_of};
+use fields::front::front_tag;
 use fields::number::text_number;
+use fields::row::fields_at;
 use model::{has_state, name_of};
 use tags::STATE;
 
@@ -40,22 +42,16 @@ const FIRST_BASE: usize = 1640531527;
 // base a file of 2,500 names has about a dozen; for each, all names before are looked at.
 const FEW_ALARMS: usize = 24;
 
-// What a comparison of the names says: the answer, where it did not give up, or that too many names crowd in the places of the
-// table.
-#[derive(Drop)]
-enum Compared {
-    All { answer: Answer },
-    Crowded,
-}
-
 // What a place holds after one more note; 0 is no note.
+#[tactic(auto, unfolding(crate::specs::Noted::joined_note))]
 fn joined_note(held: u8, note: u8) -> u8
     ensures { result ≡ joined_note held note }
 {
     if (held == 0) | (held == note) {
-        return note;
+        note
+    } else {
+        SEVERAL
     }
-    SEVERAL
 }
 
 // Notes a number in the table, and answers whether the table showed it before. A place where several notes came together
@@ -64,7 +60,7 @@ fn note_number(number: usize, table: &mut [u8]) -> bool
     ensures shown { result ≡ shows table.old number }
     ensures noted { table.new ≡ with_number table.old number }
 {
-    if table.len() == 0 {
+    if table.is_empty() {
         return true;
     }
     let i = number / NUMBERS_OF_A_PLACE % table.len();
@@ -74,73 +70,75 @@ fn note_number(number: usize, table: &mut [u8]) -> bool
     (held == note) | (held == SEVERAL)
 }
 
-// Notes the name of the field at the front of s in the table, if it is a state field, and answers whether the table showed it
-// before.
-fn note_name(s: &[u8], base: usize, table: &mut [u8]) -> bool
-    requires { base < 2147483648 }
-    ensures shown { result ≡ shows_front base s.now table.old }
-    ensures noted { table.new ≡ with_front base s.now table.old }
-{
-    if front_tag(s) != STATE {
-        return false;
+impl Comparison {
+    // Notes the name of the field at the front of s in the table, if it is a state field, and answers whether the table showed it
+    // before.
+    fn note_name(self, s: &[u8], table: &mut [u8]) -> bool
+        ensures shown { result ≡ shows_front self.base s.now table.old }
+        ensures noted { table.new ≡ with_front self.base s.now table.old }
+    {
+        if front_tag(s) != STATE {
+            return false;
+        }
+        note_number(text_number(name_of(s), self.base), table)
     }
-    note_number(text_number(name_of(s), base), table)
-}
 
-// The first state field whose name an earlier one has: the names before it are those of the bytes before it. The table shows
-// them, so most names need not be looked for. The comparison gives up at one false alarm more than are allowed. What the lent
-// table holds at first makes no difference to the answer.
-fn check_names_in(file: &[u8], base: usize, allowed: usize, table: &mut [u8]) -> Compared
-    requires { base < 2147483648 }
-    ensures { Decided file.now allowed result }
-{
-    let mut t = file;
-    let mut at = 0;
-    let mut alarms = 0;
-    while is_whole(t) {
-        if note_name(t, base, table) {
-            if has_state(keep(file, at), name_of(t)) {
-                return Compared::All {
-                    answer: Answer::Refused {
-                        number: 7,
-                        place: at,
-                    },
-                };
+    // The first state field whose name an earlier one has: the names before it are those of the bytes before it. The table shows
+    // them, so most names need not be looked for. The comparison gives up, with no answer, at one false alarm more than are
+    // allowed: then too many names crowd in the places of the table. What the lent table holds at first makes no difference to
+    // the answer.
+    fn check_names_in(self, file: &[u8], table: &mut [u8]) -> Option<Answer>
+        ensures { Decided file.now self.allowed result }
+    {
+        let mut alarms = 0;
+        for field in fields_at(file, 0) {
+            if !self.note_name(field.part, table) {
+                continue;
             }
-            if alarms == allowed {
-                return Compared::Crowded;
+            if has_state(keep(file, field.place), name_of(field.part)) {
+                return Some(Err(Refusal {
+                    question: Question::StateNames,
+                    place: field.place,
+                }));
+            }
+            if alarms == self.allowed {
+                return None;
             }
             alarms += 1;
         }
-        at += 3 + length_of(t);
-        let u = after_front(t);
-        t = u;
+        Some(Ok(()))
     }
-    Compared::All {
-        answer: Answer::Passes,
-    }
-}
 
-// The same with a table of its own.
-fn compare_names(file: &[u8], base: usize, allowed: usize) -> Compared
-    requires { base < 2147483648 }
-    ensures { Decided file.now allowed result }
-{
-    if file.len() <= SHORT_FILE {
-        let mut table = [0u8; SHORT_TABLE];
-        return check_names_in(file, base, allowed, &mut table);
+    // The same with a table of its own.
+    fn check_names_with<const PLACES: usize>(self, file: &[u8]) -> Option<Answer>
+        requires { PLACES < 65536 }
+        ensures { Decided file.now self.allowed result }
+    {
+        let mut table = [0u8; PLACES];
+        self.check_names_in(file, &mut table)
     }
-    let mut table = [0u8; LONG_TABLE];
-    check_names_in(file, base, allowed, &mut table)
-}
 
-// The base after this one, worked out from all bytes of the file, so that it is not known before they are chosen. It is odd, so
-// that every byte of a name counts.
-fn next_base(file: &[u8], base: usize) -> usize
-    requires { base < 2147483648 }
-    ensures { result < 2147483648 }
-{
-    text_number(file, base) / 4 * 2 + 1
+    // The same with a table of the length that suits the file.
+    fn check_names(self, file: &[u8]) -> Option<Answer>
+        ensures { Decided file.now self.allowed result }
+    {
+        if file.len() <= SHORT_FILE {
+            return self.check_names_with::<SHORT_TABLE>(file);
+        }
+        self.check_names_with::<LONG_TABLE>(file)
+    }
+
+    // The comparison after this one, with twice as many false alarms allowed. Its base is worked out from all bytes of the file, so
+    // that it is not known before they are chosen. It is odd, so that every byte of a name counts.
+    fn next(self, file: &[u8]) -> Comparison
+        requires { self.allowed < 2 ^ 63 }
+        ensures { result.allowed ≡ 2 * self.allowed }
+    {
+        Comparison {
+            base: text_number(file, self.base) / 4 * 2 + 1,
+            allowed: 2 * self.allowed,
+        }
+    }
 }
 
 // Any base gives the right answer, but in an unlucky one many names crowd in few places. Then they are compared anew in another
@@ -148,13 +146,14 @@ fn next_base(file: &[u8], base: usize) -> usize
 pub fn check_names(file: &[u8]) -> Answer
     ensures { asked result ≡ ask_names [] (states (fields file.now)) }
 {
-    let mut base = FIRST_BASE;
-    let mut allowed = FEW_ALARMS;
+    let mut comparison = Comparison {
+        base: FIRST_BASE,
+        allowed: FEW_ALARMS,
+    };
     loop {
-        if let Compared::All { answer } = compare_names(file, base, allowed) {
+        if let Some(answer) = comparison.check_names(file) {
             return answer;
         }
-        base = next_base(file, base);
-        allowed *= 2;
+        comparison = comparison.next(file);
     }
 }

@@ -1,7 +1,6 @@
 -- The definitions computed on examples: what zero is, where a state field starts, what raises it and by what.
 use Rattle.std.proofs.Common.{ℕ, ◌≡◌, refl, Bool, true, false, List, [], ◌∷◌, ◌++◌, map}
 use Prim.Native.String.{String}
-use Rattle.laws.specs.Lists.{all, filter}
 use Rattle.laws.specs.Texts.{same_bytes, bytes}
 use Rattle.tags.specs.Tag.{State, Genesis, Set, AddTo, SubtractFrom, String as Text, Checked, Wrapping, Add, Sub, Mul, composite, is_assign, is_wrapper}
 use Rattle.fields.specs.Field.{fields, fields_to, front, nth, row, fields_from, sizes, encode}

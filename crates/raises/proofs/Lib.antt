@@ -1,4 +1,3 @@
-pub mod Passing
 pub mod Zeros
 pub mod Statements
 pub mod Examples

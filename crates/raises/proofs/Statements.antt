@@ -2,16 +2,16 @@
 use Rattle.std.proofs.Common.{ℕ, ◌≤◌, ◌≡◌, refl, sym, ◌∙◌, Bool, true, false, cond, not, ◌&&◌, ◌||◌, List, [], ◌∷◌, map, arith, leb-true, le-leb, eqb, leb}
 use mathlib.Core.List.{flat_map}
 use borrow.Author.Tests.{not-true, eqb-false}
-use Rattle.laws.specs.Lists.{filter}
+use Rattle.laws.specs.Lists.{any, filter}
 use Rattle.laws.specs.Texts.{same_bytes}
-use Rattle.laws.proofs.Lists.{filter-first}
+use Rattle.laws.proofs.Lists.{any-first, filter-first}
 use Rattle.laws.proofs.Truths.{and_left, and_right, or-none}
 use Rattle.tags.specs.Tag.{Guard, Set, AddTo, SubtractFrom, ExpressionStatement, Add, Sub, between, is_assign}
-use Rattle.fields.specs.Field.{Field, Fields, tag, part, row, fields_from}
+use Rattle.fields.specs.Field.{Field, Fields, fields, tag, part, parts, row, fields_from}
 use Rattle.model.specs.Model.{body}
 use Rattle.walking.specs.Walking.{peel, ident}
 use Rattle.raises.specs.Raises.{assigns, value, sets_from, raise, raises}
-use Rattle.raises.specs.Raising.{is_raise, raised_by}
+use Rattle.raises.specs.Raising.{is_raise, raised_by, raising}
 
 module _ (r : List ℕ) where
   one-raise : (s : Field) → raise r s ≡ cond (not (eqb (tag s) SubtractFrom || sets_from Sub r s)) (raised_by r s ∷ []) []
@@ -73,8 +73,25 @@ module _ (name : List ℕ) (s : Field) (h : is_raise name s ≡ true) where
   statement-tag : between Guard ExpressionStatement t ≡ true
   statement-tag = rw (le-leb Guard t (omega (arith, from-set)), le-leb t ExpressionStatement (omega (arith, to-add)))
 
-pub raises-only : (name : List ℕ) (fs : Fields) → filter (is_raise name) (fields_from Set AddTo fs) ≡ filter (is_raise name) (fields_from Guard ExpressionStatement fs)
-unfolding fields_from
-raises-only name fs =
-    filter-first (is_raise name) (λ f. between Set AddTo (tag f)) (raise-tag name) (row fs)
-    ∙ sym (filter-first (is_raise name) (λ f. between Guard ExpressionStatement (tag f)) (statement-tag name) (row fs))
+-- so another tag is of no raise
+pub no_raise : (name : List ℕ) (s : Field) → (tag s ≡ Set → ⊥) → (tag s ≡ AddTo → ⊥) → false ≡ is_raise name s
+no_raise name s n o = go (is_raise name s) refl
+  where
+    go : (k : Bool) → is_raise name s ≡ k → false ≡ k
+    go true h = absurd (omega (arith, from-set name s h, to-add name s h))
+    go false h = refl
+
+-- so of a row of fields only those are raises that set or add, and only statements
+module _ (name : List ℕ) (fs : Fields) where
+  pub raises-in : filter (is_raise name) (fields_from Guard ExpressionStatement fs) ≡ filter (is_raise name) (row fs)
+  unfolding fields_from
+  raises-in = filter-first (is_raise name) (λ f. between Guard ExpressionStatement (tag f)) (statement-tag name) (row fs)
+
+  pub raises-only : filter (is_raise name) (fields_from Set AddTo fs) ≡ filter (is_raise name) (fields_from Guard ExpressionStatement fs)
+  unfolding fields_from
+  raises-only = filter-first (is_raise name) (λ f. between Set AddTo (tag f)) (raise-tag name) (row fs) ∙ sym raises-in
+
+pub any-raise : (name : List ℕ) (entry : Field) (p t : List ℕ) → t ≡ p → fields p ≡ parts entry → any (is_raise name) (row (fields t)) ≡ raising name entry
+unfolding raising body fields_from
+any-raise name entry p t e f =
+    rw (e, f) (sym (any-first (is_raise name) (λ g. between Guard ExpressionStatement (tag g)) (statement-tag name) (row (parts entry))))

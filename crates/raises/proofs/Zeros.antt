@@ -2,19 +2,19 @@
 use Rattle.std.proofs.Common.{ℕ, ◌≡◌, refl, Bool, true, false, cond, ◌&&◌, List, [], ◌∷◌, map}
 use Rattle.laws.specs.Lists.{all, filter}
 use Rattle.laws.specs.Texts.{same_bytes}
+use Rattle.laws.proofs.Texts.{bytes-symmetric}
 use Rattle.tags.specs.Tag.{State, Genesis}
-use Rattle.fields.specs.Field.{Field, fields, part, from, fields_from}
+use Rattle.fields.specs.Field.{Field, fields, part, fields_from}
 use Rattle.model.specs.Model.{name_of, genesis}
 use Rattle.walking.specs.Walking.{present}
 use Rattle.raises.specs.Raises.{assigns, is_zero, defaults, genesis_values}
 use Rattle.raises.specs.Raising.{default_passes, genesis_passes}
-use Rattle.raises.proofs.Passing.{Passing, passing-all}
 
 module _ (r : List ℕ) where
   default-each : (l : List Field) → all (default_passes r) l ≡ all is_zero (filter present (map (part 2) (filter (λ s. same_bytes (name_of s) r) l)))
   unfolding default_passes
   default-each [] = refl
-  default-each (s ∷ l) = go (same_bytes (name_of s) r) (present (part 2 s)) refl (default-each l)
+  default-each (s ∷ l) = rw (bytes-symmetric r (name_of s)) (go (same_bytes (name_of s) r) (present (part 2 s)) refl (default-each l))
     where
       go : (j k : Bool) → present (part 2 s) ≡ k → all (default_passes r) l ≡ all is_zero (filter present (map (part 2) (filter (λ s. same_bytes (name_of s) r) l))) →
           cond (j && k) (is_zero (part 2 s)) true && all (default_passes r) l
@@ -34,10 +34,10 @@ module _ (r : List ℕ) where
       go true e = rw e
       go false e = e
 
-  pub defaults-all : (s t : List ℕ) → t ≡ from State State s → Passing State State (default_passes r) t (all is_zero (defaults (fields s) r))
+  pub defaults-all : (s t : List ℕ) → t ≡ s → all (default_passes r) (fields_from State State (fields t)) ≡ all is_zero (defaults (fields s) r)
   unfolding defaults
-  defaults-all s t e = passing-all State State (default_passes r) s t _ e (default-each (fields_from State State (fields s)))
+  defaults-all s t e = rw e (default-each (fields_from State State (fields s)))
 
-  pub genesis-all : (s t : List ℕ) → t ≡ from Genesis Genesis s → Passing Genesis Genesis (genesis_passes r) t (all is_zero (genesis_values (fields s) r))
+  pub genesis-all : (s t : List ℕ) → t ≡ s → all (genesis_passes r) (fields_from Genesis Genesis (fields t)) ≡ all is_zero (genesis_values (fields s) r)
   unfolding genesis_values genesis
-  genesis-all s t e = passing-all Genesis Genesis (genesis_passes r) s t _ e (genesis-each (fields_from Genesis Genesis (fields s)))
+  genesis-all s t e = rw e (genesis-each (fields_from Genesis Genesis (fields s)))

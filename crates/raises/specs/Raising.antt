@@ -1,25 +1,22 @@
 -- What the code asks of a state field's default, of a genesis statement, and of a statement and an entry that may raise it.
-use Rattle.std.specs.Prelude.{ℕ, Bool, true, cond, ◌&&◌, ◌||◌, not, List, [], ◌∷◌, eqb}
-use Rattle.laws.specs.Lists.{any, all, filter}
+use Rattle.std.specs.Prelude.{ℕ, Bool, true, cond, ◌&&◌, ◌||◌, not, List, eqb}
+use Rattle.laws.specs.Lists.{any, all}
 use Rattle.laws.specs.Texts.{same_bytes}
-use Rattle.tags.specs.Tag.{Guard, SubtractFrom, ExpressionStatement, Add, Sub}
-use Rattle.fields.specs.Field.{Field, fields, whole, after, front, tag, part, fields_from}
+use Rattle.tags.specs.Tag.{SubtractFrom, Add, Sub}
+use Rattle.fields.specs.Field.{Field, tag, part}
 use Rattle.model.specs.Model.{name_of, body}
 use Rattle.walking.specs.Walking.{peel, present}
 use Rattle.raises.specs.Raises.{assigns, value, sets_from, is_zero}
 
 -- Zero
 
--- the digit 0, or the underscore between digits
-unfoldable pub zero_digit : ℕ → Bool
-zero_digit c = eqb c 0x30 || eqb c 0x5F
-
+-- digits 0, and underscores between them
 unfoldable pub zero_digits : List ℕ → Bool
-zero_digits l = all zero_digit l
+zero_digits l = all (λ c. eqb c 0x30 || eqb c 0x5F) l
 
 -- a state field that is not r, has no default or a zero one
 unfoldable pub default_passes : List ℕ → Field → Bool
-default_passes r s = cond (same_bytes (name_of s) r && present (part 2 s)) (is_zero (part 2 s)) true
+default_passes r s = cond (same_bytes r (name_of s) && present (part 2 s)) (is_zero (part 2 s)) true
 
 -- a genesis statement that does not assign to r, or assigns zero
 unfoldable pub genesis_passes : List ℕ → Field → Bool
@@ -38,7 +35,3 @@ raised_by r s = cond (sets_from Add r s) (peel (part 1 (value s))) (value s)
 -- an entry that raises r
 unfoldable pub raising : List ℕ → Field → Bool
 raising r entry = any (is_raise r) (body entry)
-
--- the statement at the front of s, which raises r, and those behind it that do; none where no whole field stands there
-abbrev pub raises_from : List ℕ → List ℕ → List Field
-raises_from r s = cond (whole s) (front s ∷ filter (is_raise r) (fields_from Guard ExpressionStatement (fields (after s)))) []

@@ -11,16 +11,15 @@ use walking::peel::peel;
 use walking::shape::ident;
 
 // Whether the statement at the front of s sets, adds to or subtracts from the state field of that name.
+#[tactic(auto, unfolding(crate::specs::Raises::assigns))]
 pub fn assigns(name: &[u8], s: &[u8]) -> bool
     ensures { result ≡ assigns name.now (front s.now) }
 {
-    if !is_assign(tag_of(s)) {
-        return false;
-    }
-    same_bytes(ident(part_of(s, 0)), name)
+    is_assign(tag_of(s)) && same_bytes(ident(part_of(s, 0)), name)
 }
 
 // What it sets, adds or subtracts, peeled.
+#[tactic(auto, unfolding(crate::specs::Raises::value))]
 pub fn value_of(s: &[u8]) -> &[u8]
     ensures { front result.now ≡ value (front s.now) }
 {
@@ -29,6 +28,7 @@ pub fn value_of(s: &[u8]) -> &[u8]
 
 // Whether it sets the state field to itself and something: the operator is the one between them, and its first side is
 // peeled.
+#[tactic(auto, unfolding(crate::specs::Raises::sets_from))]
 pub fn sets_from(operator: u8, name: &[u8], s: &[u8]) -> bool
     ensures { result ≡ sets_from operator name.now (front s.now) }
 {
@@ -36,8 +36,5 @@ pub fn sets_from(operator: u8, name: &[u8], s: &[u8]) -> bool
         return false;
     }
     let value = value_of(s);
-    if tag_of(value) != operator {
-        return false;
-    }
-    same_bytes(ident(peel(part_of(value, 0))), name)
+    tag_of(value) == operator && same_bytes(ident(peel(part_of(value, 0))), name)
 }

@@ -2,6 +2,5 @@
 #![tactic(auto)]
 
 pub mod assignment;
-pub mod name;
 pub mod raise;
 pub mod zero;

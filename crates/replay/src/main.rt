@@ -2,9 +2,6 @@
 // Computes the listing of each model file in a list of answers, and compares it with the one that stands there.
 #![tactic(auto)]
 
-ghost use Rattle.std.specs.Prelude.{◌+◌, ◌≤◌, ◌<◌, length};
-
-use fields::bytes::{byte_at, keep, same_bytes, skip};
 use listing::lines::listing;
 use std::io::{self, Read};
 
@@ -17,79 +14,62 @@ const MOST_WRITTEN: usize = 65536;
 // How many records of a list are gone through.
 const MOST_RECORDS: u64 = 65536;
 
-// The length at the front of a part of the list: two bytes, most significant first.
-fn length_at(s: &[u8]) -> usize
-    ensures { result < 65536 }
-{
-    byte_at(s, 0) as usize * 256 + byte_at(s, 1) as usize
+// The length at the front of a part of the list, two bytes, most significant first, and what stands behind it.
+fn split_length(s: &[u8]) -> Option<(usize, &[u8])> {
+    let (length, rest) = s.split_first_chunk::<2>()?;
+    Some((usize::from(u16::from_be_bytes(*length)), rest))
 }
 
-// The bytes that are counted there.
-fn counted(s: &[u8]) -> &[u8] {
-    keep(skip(s, 2), length_at(s))
-}
-
-// Whether they are all there.
-fn has_counted(s: &[u8]) -> bool {
-    (2 <= s.len()) & (2 + length_at(s) <= s.len())
-}
-
-// What stands behind them.
-fn behind(s: &[u8]) -> &[u8] {
-    skip(s, 2 + length_at(s))
+// A file of a length, its listing, and what stands behind them; nothing where they are cut off.
+fn split_answer(length: usize, s: &[u8]) -> Option<(&[u8], &[u8], &[u8])> {
+    let (file, rest) = s.split_at_checked(length)?;
+    let (length, rest) = split_length(rest)?;
+    let (expected, rest) = rest.split_at_checked(length)?;
+    Some((file, expected, rest))
 }
 
 // Whether a file has this listing.
-fn answers(file: &[u8], expected: &[u8]) -> bool {
+fn has_listing(file: &[u8], expected: &[u8]) -> bool {
     let mut buffer = [0u8; MOST_WRITTEN];
     let length = listing(file, &mut buffer);
-    same_bytes(keep(&buffer, length), expected)
+    &buffer[..length] == expected
 }
 
-// Whether the record at the front of a part of the list is a file with its listing. One that is cut off is not, nor is a file
-// that there is no room for.
-fn is_answered(s: &[u8]) -> bool {
-    if MOST_READ < length_at(s) {
-        return false;
+// Whether a record whose file has a length is a file with its listing, and what stands behind it. One that is cut off is not, nor is
+// a file that there is no room for, of which only the length is read.
+fn replay_record(length: usize, s: &[u8]) -> (bool, &[u8]) {
+    if MOST_READ < length {
+        return (false, s);
     }
-    let second = behind(s);
-    if !(has_counted(s) & has_counted(second)) {
-        return false;
+    match split_answer(length, s) {
+        Some((file, expected, rest)) => (has_listing(file, expected), rest),
+        None => (false, &[]),
     }
-    answers(counted(s), counted(second))
-}
-
-// What stands behind that record; of a file that there is no room for only its length is read.
-fn after_record(s: &[u8]) -> &[u8] {
-    if MOST_READ < length_at(s) {
-        return skip(s, 2);
-    }
-    behind(behind(s))
 }
 
 // A record is a file and its listing, each with its length in front of it. Records are counted from 0, as entries are.
 fn main(rt: HostRuntime) -> io::Result<()> {
     let mut list = Vec::new(rt.alloc());
     rt.reader().read_to_end(&mut list)?;
-    let mut rest: &[u8] = &list;
-    let mut differences: u64 = 0;
-    let mut first: u64 = 0;
+    let mut rest = list.as_slice();
     let mut count: u64 = 0;
-    for record in 0..MOST_RECORDS {
-        if rest.len() < 2 {
+    let mut differences: u64 = 0;
+    let mut first = None;
+    for number in 0..MOST_RECORDS {
+        let Some((length, behind)) = split_length(rest) else {
             break;
-        }
-        if !is_answered(rest) {
-            first = if differences == 0 { record } else { first };
+        };
+        let (is_same, next) = replay_record(length, behind);
+        if !is_same {
+            first = first.or(Some(number));
             differences += 1;
         }
-        let next = after_record(rest);
-        rest = next;
         count += 1;
+        rest = next;
     }
     println!(rt; "{count} answers, {differences} differences")?;
-    if 0 < differences {
-        println!(rt; "first difference: {first}")?;
+    if let Some(number) = first {
+        println!(rt; "first difference: {number}")?;
     }
     Ok(())
 }

@@ -1,17 +1,15 @@
 -- The calls of an entry's body are all in the table, and a test that only a call passes needs no others.
-use Rattle.std.proofs.Common.{ℕ, ◌+◌, ◌*◌, ◌≤◌, ◌<◌, ◌≡◌, refl, sym, ◌∙◌, Bool, true, false, cond, not, List, [], ◌∷◌, arith, eqb, length, get_or, take, drop, drop_of_length-le}
+use Rattle.std.proofs.Common.{ℕ, ◌*◌, ◌≤◌, ◌≡◌, refl, sym, ◌∙◌, Bool, true, false, cond, not, ◌&&◌, List, [], ◌∷◌, None, Some, arith, eqb, length, take, drop}
 use mathlib.Core.Bool.{and-true, and-false}
 use borrow.Author.Tests.{not-true, not-false}
 use Rattle.laws.specs.Texts.{same_bytes}
-use Rattle.laws.specs.Lists.{any, filter}
+use Rattle.laws.specs.Lists.{any, filter, find}
 use Rattle.laws.proofs.Truths.{and_left}
-use Rattle.laws.proofs.Slices.{drop-step}
 use Rattle.laws.proofs.Lists.{any-first}
 use Rattle.tags.specs.Tag.{Call}
 use Rattle.fields.specs.Table.{Listed, fields_at}
 use Rattle.fields.specs.Field.{Field, front, tag, part}
-use Rattle.fields.proofs.Reading.{front-none}
-use Rattle.walking.specs.Walking.{peel, method, is_debit, exprs, body_exprs}
+use Rattle.walking.specs.Walking.{peel, method, is_debit, debits, exprs, body_exprs}
 use Rattle.walking.specs.Table.{placed_at, places_of}
 use Rattle.walking.proofs.Calls.{is_call, debit-call}
 use Rattle.walking.proofs.Callers.{body-read}
@@ -20,7 +18,7 @@ use Rattle.tokens.specs.Tokens.{is_credit}
 use Rattle.tokens.specs.Numbers.{Standing}
 use Rattle.fundings.proofs.Calls.{room-lent, calls-front}
 use Rattle.reserve_tokens.specs.ReserveTokens.{credited}
-use Rattle.reserve_tokens.specs.Reserving.{with_amount, first_of}
+use Rattle.reserve_tokens.specs.Reserving.{with_amount}
 
 -- what list_body writes
 pub calls-read : (file : List ℕ) (n j : ℕ) → Standing file n j → (table calls : List ℕ) (count : ℕ) →
@@ -59,45 +57,53 @@ pub credited-any : (entry v : Field) (fs : List Field) → fs ≡ filter is_call
 unfolding credited with_amount
 credited-any entry v fs e = rw e (any-first (with_amount is_credit v) is_call (amount-call is_credit credit-call v) (exprs entry))
 
--- The first call that passes
+-- The first debit of the amount is the first call that passes
 
-first-first : (p q : Field → Bool) → ((f : Field) → p f ≡ true → q f ≡ true) → (l : List Field) → first_of p (filter q l) ≡ first_of p l
-unfolding first_of
-first-first p q implies [] = refl
-first-first p q implies (x ∷ xs) = go (p x) (q x) refl refl (first-first p q implies xs)
+find-both : {A : Type 0} (p q : A → Bool) (l : List A) → find p (filter q l) ≡ find (λ x. q x && p x) l
+find-both p q [] = refl
+find-both p q (x ∷ xs) = go (q x) (p x) refl (find-both p q xs)
   where
-    go : (j k : Bool) → p x ≡ j → q x ≡ k → first_of p (filter q xs) ≡ first_of p xs →
-        first_of p (cond k (x ∷ filter q xs) (filter q xs)) ≡ cond j x (first_of p xs)
+    go : (j k : Bool) → p x ≡ k → find p (filter q xs) ≡ find (λ y. q y && p y) xs →
+        find p (cond j (x ∷ filter q xs) (filter q xs)) ≡ cond (j && k) (Some x) (find (λ y. q y && p y) xs)
+    go true true b e = rw b
+    go true false b e = rw (b, e)
+    go false k b e = e
+
+find-implied : {A : Type 0} (p q : A → Bool) → ((x : A) → p x ≡ true → q x ≡ true) → (l : List A) → find p (filter q l) ≡ find p l
+find-implied p q implies [] = refl
+find-implied p q implies (x ∷ xs) = go (p x) (q x) refl refl (find-implied p q implies xs)
+  where
+    go : (j k : Bool) → p x ≡ j → q x ≡ k → find p (filter q xs) ≡ find p xs → find p (cond k (x ∷ filter q xs) (filter q xs)) ≡ cond j (Some x) (find p xs)
     go true true a b e = rw a
     go true false a b e = cc (implies x a)
     go false true a b e = rw (a, e)
     go false false a b e = e
 
-pub debit-first : (entry v : Field) (fs : List Field) → fs ≡ filter is_call (exprs entry) → first_of (with_amount is_debit v) fs ≡ first_of (with_amount is_debit v) (exprs entry)
-debit-first entry v fs e = rw e (first-first (with_amount is_debit v) is_call (amount-call is_debit debit-call v) (exprs entry))
+pub debit-found : (entry v : Field) (fs : List Field) → fs ≡ filter is_call (exprs entry) →
+    find (λ d. expr_eq (peel (part 2 d)) v) (debits entry) ≡ find (with_amount is_debit v) fs
+unfolding debits with_amount
+debit-found entry v fs e =
+    find-both (λ d. expr_eq (peel (part 2 d)) v) is_debit (exprs entry)
+    ∙ sym (rw e (find-implied (with_amount is_debit v) is_call (amount-call is_debit debit-call v) (exprs entry)))
 
--- those before i do not pass
-pub record Picking (p : Field → Bool) (s calls : List ℕ) (i : ℕ) : Type 0 where
-  pub within : i ≤ length calls
-  pub left : first_of p (fields_at s (drop i calls)) ≡ first_of p (fields_at s calls)
+-- A test of the fields at some places, place by place
 
-pub picking-all : (p : Field → Bool) (s calls : List ℕ) → Picking p s calls 0
-picking-all p s calls = record { within = omega arith; left = refl }
+pub any-placed : (p : Field → Bool) (file calls : List ℕ) → any (λ call. p (front (drop call file))) calls ≡ any p (fields_at file calls)
+unfolding fields_at
+any-placed p file [] = refl
+any-placed p file (k ∷ ks) = rw (any-placed p file ks)
 
-module _ (p : Field → Bool) (s calls : List ℕ) (i : ℕ) (v : Picking p s calls i) where
-  -- past the end of the file stands no field
-  pub picking-none : length calls ≤ i → front (drop (length s) s) ≡ first_of p (fields_at s calls)
-  unfolding first_of fields_at
-  picking-none h =
-      rw (drop_of_length-le s {i = length s} (omega arith)) (front-none [] refl) ∙ (rw (drop_of_length-le calls {i = i} h) at v.left)
-
-  module _ (h : i < length calls) (n : ℕ) (k : n ≡ get_or calls i 0) (x : List ℕ) (e : x ≡ drop n s) (b : Bool) (f : b ≡ p (front x)) where
-    ahead : cond b (front x) (first_of p (fields_at s (drop (i + 1) calls))) ≡ first_of p (fields_at s calls)
-    unfolding first_of fields_at
-    ahead = rw (drop-step calls i h, ← k, ← e, ← f) at v.left
-
-    pub picking-found : b ≡ true → front (drop n s) ≡ first_of p (fields_at s calls)
-    picking-found g = rw (← e) (rw g at ahead)
-
-    pub picking-on : b ≡ false → Picking p s calls (i + 1)
-    picking-on g = record { within = omega arith; left = rw g at ahead }
+pub find-placed : {B : Type 0} (p : Field → Bool) (f : Field → B) (d : B) (file calls : List ℕ) →
+    ◌≡◌ {A = B} (elim (find p (fields_at file calls)) [ None ↦ d | Some x ↦ f x ])
+    (elim (find (λ call. p (front (drop call file))) calls) [ None ↦ d | Some call ↦ f (front (drop call file)) ])
+unfolding fields_at
+find-placed {B = B} p f d file [] = refl
+find-placed {B = B} p f d file (k ∷ ks) = go (p (front (drop k file))) (find-placed p f d file ks)
+  where
+    go : (b : Bool) →
+        ◌≡◌ {A = B} (elim (find p (fields_at file ks)) [ None ↦ d | Some x ↦ f x ])
+        (elim (find (λ call. p (front (drop call file))) ks) [ None ↦ d | Some call ↦ f (front (drop call file)) ]) →
+        ◌≡◌ {A = B} (elim (cond b (Some (front (drop k file))) (find p (fields_at file ks))) [ None ↦ d | Some x ↦ f x ])
+        (elim (cond b (Some k) (find (λ call. p (front (drop call file))) ks)) [ None ↦ d | Some call ↦ f (front (drop call file)) ])
+    go true e = refl
+    go false e = e

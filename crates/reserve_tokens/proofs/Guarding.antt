@@ -1,12 +1,16 @@
 -- The guards of an entry, one after the other: each stands in the file, and a second token leaves none, be it the same or not.
-use Rattle.std.proofs.Common.{ℕ, ◌+◌, ◌-◌, ◌≤◌, ◌≡◌, refl, ◌∙◌, Bool, true, false, not, ◌&&◌, List, [], ◌∷◌, map, arith, eqb-true, eqb, length, take, drop, length-take, length-drop}
+use Rattle.std.proofs.Common.{ℕ, ◌+◌, ◌≡◌, refl, ◌∙◌, Bool, true, false, not, ◌&&◌, List, [], ◌∷◌, map, eqb-true, eq-eqb, ne_eqb, eqb, length, drop}
 use borrow.Author.Tests.{eqb-false}
 use Rattle.laws.specs.Lists.{filter}
-use Rattle.laws.proofs.Lists.{Every, every-filter}
+use Rattle.laws.proofs.Lists.{Every}
 use Rattle.tags.specs.Tag.{Guard, between}
-use Rattle.fields.specs.Field.{Placed, fields, whole, after, front, tag, parts, sizes, from, placed, placed_from}
+use Rattle.tags.proofs.Ranges.{between-one}
+use Rattle.fields.specs.Field.{Placed, fields, whole, front, tag, parts, placed, placed_from}
+use Rattle.fields.specs.Row.{shown, left, Step}
+use Rattle.fields.specs.declared.field.Fields.{Fields}
+use Rattle.fields.specs.declared.field.Field.{Field as Found}
+use Rattle.fields.proofs.InARow.{left-next, placed-end}
 use Rattle.fields.proofs.Inside.{Stands, parts-stand}
-use Rattle.fields.proofs.Rows.{from-shorter, from_less, rest_of, from-placed, rest-next}
 use Rattle.walking.specs.Table.{placed_at}
 use Rattle.tokens.specs.Numbers.{joined}
 use Rattle.tokens.proofs.Joining.{joined-empty, joined-first}
@@ -48,58 +52,52 @@ module _ (file : List ℕ) (a b : ℕ) (ks : List ℕ) where
       go true false p q = rw (← joined-first file a b (eqb-false b 0 q) (eqb-true a 0 p), p)
       go false false p q = cc
 
--- p are the parts of the entry at n, and t starts with a guard of them, or has no whole field
-pub record Guarding (file : List ℕ) (n : ℕ) (p t : List ℕ) (found r : ℕ) : Type 0 where
-  pub short : length p ≤ length file
-  pub within : length t ≤ length p
-  pub stands : Every (Stands file) (rest_of Guard Guard (n + 3) p t)
-  pub left : only_of found (map (guard_number file) (rest_of Guard Guard (n + 3) p t)) ≡ r
+-- the guards among some fields
+abbrev pub guards_among : List Placed → List Placed
+guards_among ps = filter (λ q. between Guard Guard (tag q.this)) ps
 
-module _ (file : List ℕ) (n : ℕ) (s : List ℕ) (e : s ≡ drop n file) (p : List ℕ) (f : fields p ≡ parts (front s)) where
-  parts-there : Every (Stands file) (placed_from Guard Guard (n + 3) (fields p))
-  unfolding placed_from
-  parts-there =
-      rw f (every-filter (Stands file) (λ q. between Guard Guard (tag q.this)) (placed (n + 3) (parts (front s)))
-      (parts-stand file (record { place = n; this = front s }) (rw e)))
+-- these parts of the entry are left
+pub record Guarding (file : List ℕ) (found r : ℕ) (rest : Fields) : Type 0 where
+  pub stands : Every (Stands file) (left rest)
+  pub ahead : only_of found (map (guard_number file) (guards_among (left rest))) ≡ r
 
-  pub guarding-all : p ≡ take (sizes (parts (front s))) (drop 3 s) → (t : List ℕ) → t ≡ from Guard Guard p →
-      Guarding file n p t 0 (only_number (guard_numbers file (placed_at file n)))
-  unfolding guard_numbers
-  guarding-all g t h = record {
-    short =
-        rw (g, length-take (sizes (parts (front s))) (drop 3 s), length-drop 3 s, e, length-drop n file)
-        (omega arith);
-    within = rw h (from-shorter Guard Guard p);
-    stands = rw (h, ← from-placed Guard Guard p (n + 3)) parts-there;
-    left =
-        rw (h, ← from-placed Guard Guard p (n + 3), f, e)
-        (only_none (map (guard_number file) (placed_from Guard Guard (n + 3) (parts (front (drop n file))))));
-  }
+pub guarding-all : (file : List ℕ) (n : ℕ) (s : List ℕ) → s ≡ drop n file → (p : List ℕ) → fields p ≡ parts (front s) →
+    (it all : Fields) → all ≡ it → it.rest.now ≡ p → it.place ≡ n + 3 → Guarding file 0 (only_number (guard_numbers file (placed_at file n))) all
+unfolding guard_numbers placed_from
+guarding-all file n s e p f it all y r z = record {
+  stands = rw (y, r, z, f, e) (parts-stand file (placed_at file n) refl);
+  ahead = rw (y, r, z, f, e) (only_none (map (guard_number file) (guards_among (placed (n + 3) (parts (front (drop n file)))))));
+}
 
-module _ (file : List ℕ) (n : ℕ) (p t : List ℕ) (found r : ℕ) (i : Guarding file n p t found r) where
-  pub guarding-end : whole t ≡ false → found ≡ r
-  guarding-end w = only-alone found ∙ (rw w at i.left)
+module _ (file : List ℕ) (found r : ℕ) (rest : Fields) (i : Guarding file found r rest) where
+  pub guarding-end : whole rest.rest.now ≡ false → found ≡ r
+  guarding-end w = only-alone found ∙ (rw (placed-end rest.rest.now w rest.place) at i.ahead)
 
-  module _ (w : whole t ≡ true) (k : ℕ) (e : k ≡ guard_number file (placed_at file (n + 3 + (length p - length t)))) where
-    abbrev behind : List Placed
-    behind = placed_from Guard Guard (n + 3 + (length p - length (after t))) (fields (after t))
+  module _ (f : Found) (behind : Fields) (h : Step rest f behind) where
+    both-stand : Every (Stands file) (shown f ∷ left behind)
+    both-stand = rw (left-next rest f behind h) at i.stands
 
-    both-stand : Every (Stands file) (record { place = n + 3 + (length p - length t); this = front t } ∷ behind)
-    both-stand = rw w at i.stands
+    -- one of the file's own length
+    pub guard-place : f.place + length f.part.now ≡ rest.place + length rest.rest.now
+    guard-place = rw (h.place, h.part)
 
-    here : only_of found (k ∷ map (guard_number file) behind) ≡ r
-    here = rw (e, both-stand.0) (rw w at i.left)
+    module _ (g : ℕ) (e : g ≡ tag (front f.part.now)) where
+      -- another field is passed over
+      pub guarding-past : (g ≡ Guard → ⊥) → Guarding file found r behind
+      guarding-past n = record {
+        stands = both-stand.1;
+        ahead = rw (left-next rest f behind h, ← e, between-one Guard g, ne_eqb g Guard n) at i.ahead;
+      }
 
-    pub guarding-second : not (eqb found 0) && not (eqb k 0) ≡ true → 0 ≡ r
-    guarding-second h = only-two file found k (map (guard_number file) behind) h ∙ here
+      module _ (q : g ≡ Guard) (k : ℕ) (j : k ≡ guard_number file (placed_at file f.place)) where
+        here : only_of found (k ∷ map (guard_number file) (guards_among (left behind))) ≡ r
+        here = rw (j, both-stand.0) (rw (left-next rest f behind h, ← e, between-one Guard g, eq-eqb g Guard q) at i.ahead)
 
-    pub guarding-on : not (eqb found 0) && not (eqb k 0) ≡ false → (u : ℕ) → u ≡ joined file found k → (y x : List ℕ) → y ≡ after t → x ≡ from Guard Guard y →
-        Guarding file n p x u r
-    guarding-on h u g y x j l = record {
-      short = i.short;
-      within = omega (arith, i.within, from_less Guard Guard t y x w j l);
-      stands = rw (l, j, ← rest-next Guard Guard (n + 3) p t i.within) both-stand.1;
-      left =
-          rw (g, l, j, ← rest-next Guard Guard (n + 3) p t i.within)
-          (only-on file found k (map (guard_number file) behind) h ∙ here);
-    }
+        pub guarding-second : not (eqb found 0) && not (eqb k 0) ≡ true → 0 ≡ r
+        guarding-second t = only-two file found k (map (guard_number file) (guards_among (left behind))) t ∙ here
+
+        pub guarding-on : not (eqb found 0) && not (eqb k 0) ≡ false → (u : ℕ) → u ≡ joined file found k → Guarding file u r behind
+        guarding-on t u o = record {
+          stands = both-stand.1;
+          ahead = rw o (only-on file found k (map (guard_number file) (guards_among (left behind))) t ∙ here);
+        }

@@ -1,17 +1,22 @@
 -- The numbers of several state fields, one after the other: those that were gone through are what they should be, and the others are as
 -- they were.
-use Rattle.std.proofs.Common.{ℕ, ◌+◌, ◌-◌, ◌≤◌, ◌<◌, ◌≡◌, refl, ◌∙◌, Bool, true, false, List, arith, length, get_or, set, replicate, length-set, get_or-set_same, get_or-set_other, eqb, eqb-true, drop}
+use Rattle.std.proofs.Common.{ℕ, ◌+◌, ◌≤◌, ◌<◌, ◌≡◌, refl, sym, ◌∙◌, Bool, true, false, List, arith, length, get_or, set, replicate, length-set, get_or-set_same, get_or-set_other, eqb, eqb-true, drop}
 use lib.ListN.{length-replicate, get_or-replicate}
 use borrow.Author.Tests.{eqb-false}
-use Rattle.fields.specs.Field.{fields, whole, after, front, parts, from}
+use Rattle.laws.specs.Lists.{any}
+use Rattle.fields.specs.Field.{fields, whole, front, tag, parts, row}
+use Rattle.fields.specs.Row.{Step}
+use Rattle.fields.specs.declared.field.Fields.{Fields}
+use Rattle.fields.specs.declared.field.Field.{Field as Item}
+use Rattle.fields.proofs.EndOf.{EndOf}
 use Rattle.walking.specs.Table.{placed_at}
-use Rattle.tags.specs.Tag.{Entry, Set, AddTo}
+use Rattle.tags.specs.Tag.{Entry, Set, AddTo, between}
 use Rattle.reserve_tokens.specs.Numbers.{numbers_in, reserve_number}
 use Rattle.reserve_tokens.specs.Agreeing.{Agreed, Agreeing}
 use Rattle.reserve_tokens.specs.Each.{nth_name, Each, EachAgreed, EachAgreeing, EachAllAgree}
 use Rattle.reserve_tokens.proofs.Raised.{none-assigned}
 use Rattle.reserve_tokens.proofs.Numbers.{reserve-found}
-use Rattle.reserve_tokens.proofs.Reserving.{Ahead, Within, none-more, ahead-all, ahead-on, ahead-end}
+use Rattle.reserve_tokens.proofs.Reserving.{Ahead, none-more, ahead-all, ahead-past, ahead-on, ahead-end}
 
 -- One number after the other
 
@@ -49,14 +54,20 @@ module _ (file places before : List ℕ) where
   each-agreed v j h k e = rw e (v.each j h)
 
   -- an entry that sets and adds to nothing changes none
-  pub each-passed-over : EachAgreed file places before → (place : ℕ) (x : List ℕ) → x ≡ drop place file → (p : List ℕ) → fields p ≡ parts (front x) →
-      (t : List ℕ) → t ≡ from Set AddTo p → whole t ≡ false → EachAgreeing file places before (placed_at file place) before
-  each-passed-over v place x e p f t g w = record {
+  pub each-passed-over : EachAgreed file places before → (place : ℕ) → any (λ f. between Set AddTo (tag f)) (row (parts (front (drop place file)))) ≡ false →
+      EachAgreeing file places before (placed_at file place) before
+  each-passed-over v place w = record {
     room = v.room;
     each = λ j h.
         none-more file (get_or before j 0) (v.each j h) (numbers_in file (nth_name file places j) (placed_at file place))
-        (none-assigned file (nth_name file places j) (placed_at file place) p (rw e at f) (rw g at w));
+        (none-assigned file (nth_name file places j) (placed_at file place) w);
   }
+
+-- what the code asks of the parts
+pub nothing-assigned : (file : List ℕ) (place : ℕ) (x : List ℕ) → x ≡ drop place file → (p : List ℕ) → fields p ≡ parts (front x) → (t : List ℕ) → t ≡ p →
+    (b : Bool) → b ≡ any (λ f. between Set AddTo (tag f)) (row (fields t)) → b ≡ false →
+    any (λ f. between Set AddTo (tag f)) (row (parts (front (drop place file)))) ≡ false
+nothing-assigned file place x e p f t g b k h = rw (← e, ← f, ← g) (sym k ∙ h)
 
 -- two bytes hold it
 pub agreeing-small : (file : List ℕ) (before : ℕ) (ns : List ℕ) (r : ℕ) → Agreeing file before ns r → r < 65536
@@ -71,29 +82,35 @@ number-small file name r e h = rw e (reserve-found file name h).small
 
 -- Entry by entry
 
--- for each, what its raises so far agree on and those of the entries ahead is what all agree on
-abbrev pub EachAhead : (file places t numbers : List ℕ) → Type 0
-EachAhead file places t numbers = Each (λ j k. Ahead file (nth_name file places j) t k) places numbers
+-- for each, what its raises so far agree on and those of the fields that are left is what all agree on
+abbrev pub EachAhead : (file places numbers : List ℕ) → Fields → Type 0
+EachAhead file places numbers rest = Each (λ j k. Ahead file (nth_name file places j) k rest) places numbers
 
 module _ (file places : List ℕ) where
-  pub each-ahead_all : length places ≤ 64 → (t : List ℕ) → t ≡ from Entry Entry file → EachAhead file places t (replicate 64 1)
-  each-ahead_all few t e = record {
+  pub each-ahead_all : length places ≤ 64 → (it all : Fields) → all ≡ it → it.rest.now ≡ file → it.place ≡ 0 → EachAhead file places (replicate 64 1) all
+  each-ahead_all few it all y r z = record {
     room = rw (length-replicate {A = ℕ} 64 1) few;
     each = λ j h.
-        let z : get_or {A = ℕ} (replicate 64 1) j 0 ≡ 1 = get_or-replicate 64 j 1 0 (omega (arith, few, h)) in
-        rw z (ahead-all file (nth_name file places j) t e);
+        let o : get_or {A = ℕ} (replicate 64 1) j 0 ≡ 1 = get_or-replicate 64 j 1 0 (omega (arith, few, h)) in
+        rw o (ahead-all file (nth_name file places j) it all y r z);
   }
 
-  module _ (t numbers : List ℕ) (v : EachAhead file places t numbers) where
+  module _ (numbers : List ℕ) (rest : Fields) (v : EachAhead file places numbers rest) where
     pub each-found : EachAgreed file places numbers
     each-found = record { room = v.room; each = λ j h. (v.each j h).found }
 
-    pub each-ahead_end : whole t ≡ false → EachAllAgree file places numbers
-    each-ahead_end w = record { room = v.room; each = λ j h. ahead-end file (nth_name file places j) t (get_or numbers j 0) (v.each j h) w }
+    pub each-ahead_end : whole rest.rest.now ≡ false → EachAllAgree file places numbers
+    each-ahead_end w = record { room = v.room; each = λ j h. ahead-end file (nth_name file places j) (get_or numbers j 0) rest (v.each j h) w }
 
-    pub each-ahead_on : (lent scratch : List ℕ) → Within file lent scratch t → whole t ≡ true → (next : List ℕ) →
-        EachAgreeing file places numbers (placed_at file (length file - length t)) next → (y u : List ℕ) → y ≡ after t → u ≡ from Entry Entry y → EachAhead file places u next
-    each-ahead_on lent scratch i w next q y u a b = record {
-      room = q.room;
-      each = λ j h. ahead-on file lent scratch t i w (nth_name file places j) (get_or numbers j 0) (v.each j h) (get_or next j 0) (q.each j h) y u a b;
-    }
+    module _ (i : EndOf file rest) (f : Item) (behind : Fields) (h : Step rest f behind) (g : ℕ) (e : g ≡ tag (front f.part.now)) where
+      pub each-ahead_past : (g ≡ Entry → ⊥) → EachAhead file places numbers behind
+      each-ahead_past n = record {
+        room = v.room;
+        each = λ j l. ahead-past file (nth_name file places j) (get_or numbers j 0) rest (v.each j l) i f behind h g e n;
+      }
+
+      pub each-ahead_on : g ≡ Entry → (next : List ℕ) → EachAgreeing file places numbers (placed_at file f.place) next → EachAhead file places next behind
+      each-ahead_on q next r = record {
+        room = r.room;
+        each = λ j l. ahead-on file (nth_name file places j) (get_or numbers j 0) rest (v.each j l) i f behind h g e q (get_or next j 0) (r.each j l);
+      }

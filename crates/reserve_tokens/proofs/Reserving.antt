@@ -1,20 +1,26 @@
 -- Entry by entry, and in each raise by raise: the number agreed on so far and those of the raises ahead agree on that of all.
-use Rattle.std.proofs.Common.{ℕ, ◌+◌, ◌-◌, ◌*◌, ◌≤◌, ◌<◌, ◌≡◌, refl, sym, ◌∙◌, Bool, true, false, cond, not, List, [], ◌++◌, map, arith, ne_eqb, length, take, drop}
+use Rattle.std.proofs.Common.{ℕ, suc, ◌+◌, ◌*◌, ◌≤◌, ◌<◌, ◌≡◌, refl, sym, ap, ◌∙◌, Bool, true, false, cond, not, List, [], ◌∷◌, ◌++◌, map, arith, add-one, eq-eqb, ne_eqb, length, get_or, drop, drop-cons, drop_of_length-le}
 use mathlib.Core.List.{flat_map}
 use borrow.Author.Tests.{not-true}
 use Rattle.laws.specs.Lists.{filter}
-use Rattle.tags.specs.Tag.{Entry, Guard, ExpressionStatement, Call}
+use Rattle.tags.specs.Tag.{Entry, Call, between}
+use Rattle.tags.proofs.Ranges.{between-one}
 use Rattle.fields.specs.Table.{Listed}
-use Rattle.fields.specs.Field.{Placed, fields, whole, after, front, parts, from, fields_from, placed_from}
-use Rattle.fields.proofs.Reading.{after_less}
-use Rattle.fields.proofs.Rows.{rest_of, from-shorter, from_less, from-placed, rest-next}
-use Rattle.fields.proofs.Tails.{tail-first, tail-next}
+use Rattle.fields.specs.Field.{Field, Placed, fields, row, whole, front, tag, parts, placed_from}
+use Rattle.fields.specs.Row.{left, Step}
+use Rattle.fields.specs.declared.field.Fields.{Fields}
+use Rattle.fields.specs.declared.field.Field.{Field as Item}
+use Rattle.fields.specs.declared.named.Named.{Named}
+use Rattle.fields.specs.declared.table.Table.{Table}
+use Rattle.fields.proofs.EndOf.{EndOf, end-there}
+use Rattle.fields.proofs.InARow.{left-next, placed-end}
 use Rattle.model.specs.Model.{body, entries}
 use Rattle.walking.specs.Walking.{body_exprs}
 use Rattle.walking.specs.Assets.{Assets}
 use Rattle.walking.specs.Table.{placed_at, places_of}
 use Rattle.tokens.specs.Numbers.{Standing, token_of}
-use Rattle.raises.specs.Raising.{is_raise, raised_by, raising, raises_from}
+use Rattle.raises.specs.Raising.{is_raise, raised_by, raising}
+use Rattle.raises.proofs.Statements.{raises-in}
 use Rattle.reserve_tokens.specs.Reserving.{Found, bars}
 use Rattle.reserve_tokens.specs.Numbers.{guard_numbers, only_number, raise_number, numbers_in, agreed}
 use Rattle.reserve_tokens.specs.Agreeing.{RaisesOf, agreed_after, Agreed, Agreeing, AllAgree}
@@ -24,9 +30,19 @@ use Rattle.reserve_tokens.proofs.Raised.{none-raised, numbers-raised}
 
 -- The raises of an entry
 
-pub record Raises (file name : List ℕ) (entry : Placed) (before now : ℕ) (t : List ℕ) : Type 0 where
+-- the statements that raise the field, as the code goes through them
+abbrev pub raising_ones : List ℕ → Placed → List Field
+raising_ones name entry = filter (is_raise name) (body entry.this)
+
+pub ones-read : (file name : List ℕ) (place : ℕ) (x : List ℕ) → x ≡ drop place file → (p t : List ℕ) → fields p ≡ parts (front x) → t ≡ p →
+    filter (is_raise name) (row (fields t)) ≡ raising_ones name (placed_at file place)
+unfolding body
+ones-read file name place x d p t e f = rw (f, e, d) (sym (raises-in name (parts (front (drop place file)))))
+
+-- n of them are passed: the number agreed on so far and those of the raises ahead agree on that of all
+pub record Raises (file name : List ℕ) (entry : Placed) (before now n : ℕ) : Type 0 where
   pub found : Found file now
-  pub left : (rest : List ℕ) → agreed file now (map (raise_number file entry) (map (raised_by name) (raises_from name t)) ++ rest)
+  pub left : (rest : List ℕ) → agreed file now (map (raise_number file entry) (map (raised_by name) (drop n (raising_ones name entry))) ++ rest)
       ≡ agreed_after file before (numbers_in file name entry ++ rest)
 
 -- what was found before further raises is agreed on with none of them
@@ -34,45 +50,42 @@ found-left : (file : List ℕ) (k : ℕ) → (k ≡ 0 → ⊥) → (ns : List �
 unfolding agreed_after
 found-left file k n ns = rw (ne_eqb k 0 n)
 
-pub raises-all : (file name : List ℕ) (place before : ℕ) → Agreed file before → (before ≡ 0 → ⊥) → (x : List ℕ) → x ≡ drop place file →
-    (p t : List ℕ) → fields p ≡ parts (front x) → filter (is_raise name) (fields_from Guard ExpressionStatement (fields p)) ≡ raises_from name t →
-    Raises file name (placed_at file place) before before t
-unfolding body
-raises-all file name place before a n x d p t e f = record {
-  found = a n;
-  left = λ rest.
-      rw (found-left file before n (numbers_in file name (placed_at file place) ++ rest), numbers-raised file name (placed_at file place), ← f, e, d);
-}
+pub raises-all : (file name : List ℕ) (entry : Placed) (before : ℕ) → Agreed file before → (before ≡ 0 → ⊥) → Raises file name entry before before 0
+raises-all file name entry before a n =
+    record { found = a n; left = λ rest. rw (found-left file before n (numbers_in file name entry ++ rest), numbers-raised file name entry) refl }
 
 -- a field that is barred stays barred
 pub still-barred : (file : List ℕ) (before : ℕ) (ns : List ℕ) → before ≡ 0 → Agreeing file before ns 0
 unfolding agreed_after
 still-barred file before ns e = rw e (record { found = λ n. absurd (n refl); left = λ rest. refl })
 
-module _ (file name : List ℕ) (entry : Placed) (before now : ℕ) (t : List ℕ) (i : Raises file name entry before now t) where
-  pub raises-done : whole t ≡ false → Agreeing file before (numbers_in file name entry) now
-  raises-done w = record { found = λ n. i.found; left = λ rest. found-left file now (λ z. omega (arith, i.found.some, z)) rest ∙ (rw w at (i.left rest)) }
+module _ (file name : List ℕ) (entry : Placed) (before now n : ℕ) (i : Raises file name entry before now n) (all : List Field) (d : all ≡ raising_ones name entry) where
+  pub raises-done : n ≡ length all → Agreeing file before (numbers_in file name entry) now
+  raises-done e =
+      let none : drop n (raising_ones name entry) ≡ [] = drop_of_length-le (raising_ones name entry) (omega (arith, e, ap length d)) in
+      record { found = λ z. i.found; left = λ rest. found-left file now (λ z. omega (arith, i.found.some, z)) rest ∙ (rw none at (i.left rest)) }
 
-  module _ (w : whole t ≡ true) (amount : List ℕ) (a : front amount ≡ raised_by name (front t)) (number : ℕ)
+  module _ (x : Field) (h : (n < length all) × (x ≡ get_or all n x)) (amount : List ℕ) (a : front amount ≡ raised_by name x) (number : ℕ)
       (k : number ≡ raise_number file entry (front amount)) (b : Bool) (f : b ≡ bars (token_of file now) (token_of file number)) where
     -- the numbers behind it
     abbrev ahead : List ℕ
-    ahead = map (raise_number file entry) (map (raised_by name) (filter (is_raise name) (fields_from Guard ExpressionStatement (fields (after t)))))
+    ahead = map (raise_number file entry) (map (raised_by name) (drop (suc n) (raising_ones name entry)))
+
+    next-one : drop n (raising_ones name entry) ≡ x ∷ drop (suc n) (raising_ones name entry)
+    next-one = rw (← d, drop-cons all n x h.0, ← h.1)
 
     here : (rest : List ℕ) → cond b 1 (agreed file number (ahead ++ rest)) ≡ agreed_after file before (numbers_in file name entry ++ rest)
     unfolding agreed
-    here rest = rw (f, k, a) (rw w at (i.left rest))
+    here rest = rw (f, k, a) (rw next-one at (i.left rest))
 
     pub raises-barred : b ≡ true → Agreeing file before (numbers_in file name entry) 0
     unfolding agreed_after
-    raises-barred h = record { found = λ n. absurd (n refl); left = λ rest. rw h at (here rest) }
+    raises-barred g = record { found = λ z. absurd (z refl); left = λ rest. rw g at (here rest) }
 
-    pub raises-on : length file ≤ 32768 → b ≡ false → (u : List ℕ) →
-        filter (is_raise name) (fields_from Guard ExpressionStatement (fields (after t))) ≡ raises_from name u →
-        Raises file name entry before number u
-    raises-on s h u j = record {
-      found = found-known file s number (not-barred (token_of file now) (token_of file number) (sym f ∙ h));
-      left = λ rest. rw (← j) (rw h at (here rest));
+    pub raises-on : length file ≤ 32768 → b ≡ false → (m : ℕ) → m ≡ n + 1 → Raises file name entry before number m
+    raises-on s g m e = record {
+      found = found-known file s number (not-barred (token_of file now) (token_of file number) (sym f ∙ g));
+      left = λ rest. rw (e, add-one) (rw g at (here rest));
     }
 
 -- no raises change nothing
@@ -86,75 +99,55 @@ entry-passed-over file name place x e b f h before a =
     none-more file before a (numbers_in file name (placed_at file place)) (none-raised file name (placed_at file place) (rw e at (sym f ∙ not-true b h)))
 
 -- what the code knows of an entry
-pub entry_known : (file : List ℕ) (place : ℕ) → Standing file place 0 → (table calls : List ℕ) (count : ℕ) →
-    Listed (places_of Call (body_exprs (placed_at file place))) table 0 calls count → length file ≤ 3 * length table →
-    (guard : ℕ) → guard ≡ only_number (guard_numbers file (placed_at file place)) → (assets : List ℕ) (many : ℕ) → Assets (drop place file) assets many →
-    RaisesOf file (record { place = place; guard = guard; calls = count; assets = many }) (take count calls) assets
-entry_known file place h table calls count l k guard g assets many n = record {
+pub entry_known : (file : List ℕ) (place : ℕ) → Standing file place 0 → (table : List ℕ) (calls : Table ℕ) →
+    Listed (places_of Call (body_exprs (placed_at file place))) table 0 calls.items.now calls.count → length file ≤ 3 * length table →
+    (guard : ℕ) → guard ≡ only_number (guard_numbers file (placed_at file place)) → (assets : Table Named) → Assets (drop place file) assets →
+    RaisesOf file (record { place = place; guard = guard; calls = calls; assets = assets })
+entry_known file place h table calls l k guard g assets n = record {
   short = h.short;
-  called = calls-read file place 0 h table calls count l k;
+  called = calls-read file place 0 h table calls.items.now calls.count l k;
   guarded = g;
   listed = n;
 }
 
 -- One entry after the other
 
--- the entries of the file from the one at the front of t on
-abbrev pub entries_ahead : (file t : List ℕ) → List Placed
-entries_ahead file t = rest_of Entry Entry 0 file t
+-- the numbers of the raises in the entries among some fields
+abbrev pub numbers_among : (file name : List ℕ) → List Placed → List ℕ
+numbers_among file name ps = flat_map (numbers_in file name) (filter (λ p. between Entry Entry (tag p.this)) ps)
 
--- the number of what the raises so far agree on, with those of the entries ahead, is that of all
-pub record Ahead (file name t : List ℕ) (now : ℕ) : Type 0 where
+-- the number of what the raises so far agree on, with those of the fields that are left, is that of all
+pub record Ahead (file name : List ℕ) (now : ℕ) (rest : Fields) : Type 0 where
   pub found : Agreed file now
-  pub left : agreed_after file now (flat_map (numbers_in file name) (entries_ahead file t)) ≡ agreed file 1 (flat_map (numbers_in file name) (entries (fields file)))
+  pub left : agreed_after file now (numbers_among file name (left rest)) ≡ agreed file 1 (flat_map (numbers_in file name) (entries (fields file)))
 
--- t starts with an entry of the file, or has no whole field
-pub record Within (file lent scratch t : List ℕ) : Type 0 where
-  pub within : length t ≤ length file
-  pub tail : t ≡ drop (length file - length t) file
-  pub wide : length scratch ≡ length lent
+pub ahead-all : (file name : List ℕ) (it all : Fields) → all ≡ it → it.rest.now ≡ file → it.place ≡ 0 → Ahead file name 1 all
+unfolding entries agreed_after placed_from
+ahead-all file name it all y r z = record { found = λ n. found_none file; left = rw (y, r, z) }
 
-pub within-all : (file lent t : List ℕ) → t ≡ from Entry Entry file → Within file lent lent t
-within-all file lent t e = record { within = rw e (from-shorter Entry Entry file); tail = tail-first Entry Entry file t e; wide = refl }
+module _ (file name : List ℕ) (now : ℕ) (rest : Fields) (o : Ahead file name now rest) where
+  pub ahead-end : whole rest.rest.now ≡ false → AllAgree file name now
+  unfolding flat_map
+  ahead-end w = rw (placed-end rest.rest.now w rest.place) at o.left
 
-pub ahead-all : (file name t : List ℕ) → t ≡ from Entry Entry file → Ahead file name t 1
-unfolding entries agreed_after
-ahead-all file name t e = record { found = λ n. found_none file; left = rw (from-placed Entry Entry file 0, ← e) refl }
-
-pub ahead-end : (file name t : List ℕ) (now : ℕ) → Ahead file name t now → whole t ≡ false → AllAgree file name now
-unfolding flat_map
-ahead-end file name t now i w = rw w at i.left
-
-module _ (file lent scratch t : List ℕ) (i : Within file lent scratch t) where
-  pub entry_here : length file ≤ 32768 → Standing file (length file - length t) 0
-  entry_here h = record { short = h; within = omega arith; few = omega arith }
-
-  module _ (w : whole t ≡ true) where
-    pub within-on : (later : List ℕ) → length later ≡ length scratch → (y u : List ℕ) → y ≡ after t → u ≡ from Entry Entry y → Within file lent later u
-    within-on later s y u a b = record {
-      within = omega (arith, i.within, from_less Entry Entry t y u w a b);
-      tail = tail-next Entry Entry file t y u i.tail a b;
-      wide = s ∙ i.wide;
+  module _ (i : EndOf file rest) (f : Item) (behind : Fields) (h : Step rest f behind) (g : ℕ) (e : g ≡ tag (front f.part.now)) where
+    -- another field is passed over
+    pub ahead-past : (g ≡ Entry → ⊥) → Ahead file name now behind
+    ahead-past n = record {
+      found = o.found;
+      left = rw (left-next rest f behind h, ← e, between-one Entry g, ne_eqb g Entry n) at o.left;
     }
 
-    module _ (name : List ℕ) (now : ℕ) (o : Ahead file name t now) (next : ℕ)
-        (q : Agreeing file now (numbers_in file name (placed_at file (length file - length t))) next) where
-      abbrev behind : List ℕ
-      behind = flat_map (numbers_in file name) (placed_from Entry Entry (0 + (length file - length (after t))) (fields (after t)))
-
-      entry-passed : agreed_after file next behind ≡ agreed file 1 (flat_map (numbers_in file name) (entries (fields file)))
+    module _ (q : g ≡ Entry) (next : ℕ) (r : Agreeing file now (numbers_in file name (placed_at file f.place)) next) where
+      entry-passed : agreed_after file next (numbers_among file name (left behind)) ≡ agreed file 1 (flat_map (numbers_in file name) (entries (fields file)))
       unfolding flat_map
       entry-passed =
-          let z : 0 + (length file - length t) ≡ length file - length t = omega arith in
-          (rw (← i.tail) at (q.left behind)) ∙ (rw (w, z) at o.left)
+          (rw (end-there file rest i f behind h) at (r.left (numbers_among file name (left behind))))
+          ∙ (rw (left-next rest f behind h, ← e, between-one Entry g, eq-eqb g Entry q) at o.left)
 
       pub entry-barred : next ≡ 0 → AllAgree file name 0
       unfolding agreed_after
       entry-barred z = rw z at entry-passed
 
-      pub ahead-on : (y u : List ℕ) → y ≡ after t → u ≡ from Entry Entry y → Ahead file name u next
-      ahead-on y u a b = record { found = q.found; left = rw (b, a, ← rest-next Entry Entry 0 file t i.within) entry-passed }
-
--- why the loop over raises ends: what is ahead is behind the statement that was passed
-pub ahead-less : (t u : List ℕ) → whole t ≡ true → length u ≤ length (after t) → length u < length t
-ahead-less t u w h = omega (arith, after_less t (after t) w refl)
+      pub ahead-on : Ahead file name next behind
+      ahead-on = record { found = r.found; left = entry-passed }

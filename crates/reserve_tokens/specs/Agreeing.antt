@@ -1,5 +1,5 @@
 -- What the raises of a state field agree on, one after the other.
-use Rattle.std.specs.Prelude.{ℕ, ◌≤◌, ◌≡◌, cond, eqb, length, drop}
+use Rattle.std.specs.Prelude.{ℕ, ◌≤◌, ◌≡◌, cond, eqb, length, take, drop}
 use mathlib.Core.List.{List, [], ◌++◌, flat_map}
 use Rattle.fields.specs.Table.{fields_at}
 use Rattle.laws.specs.Lists.{filter}
@@ -15,11 +15,11 @@ use Rattle.reserve_tokens.specs.Numbers.{guard_numbers, only_number, numbers_in,
 
 -- what the code knows of an entry whose raises it goes through: the calls of its body, its asset parameters, and what is the same for
 -- all raises
-pub record RaisesOf (file : List ℕ) (e : Raising) (calls assets : List ℕ) : Type 0 where
+pub record RaisesOf (file : List ℕ) (e : Raising) : Type 0 where
   pub short : length file ≤ 32768
-  pub called : fields_at file calls ≡ filter (λ f. eqb (tag f) Call) (exprs (front (drop e.place file)))
+  pub called : fields_at file (take e.calls.count e.calls.items.now) ≡ filter (λ f. eqb (tag f) Call) (exprs (front (drop e.place file)))
   pub guarded : e.guard ≡ only_number (guard_numbers file (placed_at file e.place))
-  pub listed : Assets (drop e.place file) assets e.assets
+  pub listed : Assets (drop e.place file) e.assets
 
 -- what is left of a number that raises agree on, or of 0, with the numbers of further raises
 unfoldable pub agreed_after : List ℕ → ℕ → List ℕ → ℕ

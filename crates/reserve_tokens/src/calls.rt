@@ -1,17 +1,15 @@
 // SPDX-License-Identifier: Apache-2.0 OR MIT
 // The calls that use an amount, among those at the places of a table: all of an entry's body, listed once for all its raises.
 ghost use Rattle.std.specs.Prelude.{◌≡◌, drop};
-ghost use Rattle.fields.specs.Table.{fields_at};
-ghost use Rattle.laws.specs.Lists.{any};
+ghost use Rattle.laws.specs.Lists.{any, find};
 ghost use Rattle.fields.specs.Field.{front};
 ghost use Rattle.walking.specs.Walking.{is_debit};
 ghost use Rattle.tokens.specs.Tokens.{is_credit};
-ghost use Rattle.reserve_tokens.specs.Reserving.{with_amount, first_of};
+ghost use Rattle.reserve_tokens.specs.Reserving.{with_amount};
 
 use equality::expr_eq;
 use fields::bytes::skip;
 use fields::front::part_of;
-use fields::table::number_at;
 use tokens::inflow::is_credit;
 use walking::peel::peel;
 use walking::shape::is_debit;
@@ -39,29 +37,17 @@ fn is_debiting(amount: &[u8], s: &[u8]) -> bool
 
 // Whether one of the calls credits, sets or inserts the amount.
 pub fn is_credited(file: &[u8], amount: &[u8], calls: &[u16]) -> bool
-    ensures { result ≡ any (with_amount is_credit (front amount.now)) (fields_at file.now calls.now) }
+    ensures { result ≡ any (λ call. with_amount is_credit (front amount.now) (front (drop call file.now))) calls.now }
 {
-    let mut i = 0;
-    while i < calls.len() {
-        if is_crediting(amount, skip(file, number_at(calls, i))) {
-            return true;
-        }
-        i += 1;
-    }
-    false
+    calls.iter().any(|&call| is_crediting(amount, skip(file, usize::from(call))))
 }
 
-// The place of the first of them that is a caller debit of the amount; the end of the file where none is.
-pub fn first_debit(file: &[u8], amount: &[u8], calls: &[u16]) -> usize
-    ensures { front (drop result file.now) ≡ first_of (with_amount is_debit (front amount.now)) (fields_at file.now calls.now) }
+// The place of the first of them that is a caller debit of the amount.
+pub fn first_debit(file: &[u8], amount: &[u8], calls: &[u16]) -> Option<u16>
+    ensures { result ≡ find (λ call. with_amount is_debit (front amount.now) (front (drop call file.now))) calls.now }
 {
-    let mut i = 0;
-    while i < calls.len() {
-        let place = number_at(calls, i);
-        if is_debiting(amount, skip(file, place)) {
-            return place;
-        }
-        i += 1;
-    }
-    file.len()
+    calls
+        .iter()
+        .copied()
+        .find(|&call| is_debiting(amount, skip(file, usize::from(call))))
 }

@@ -6,7 +6,8 @@ ghost use Rattle.tokens.specs.Numbers.{Standing};
 ghost use Rattle.reserve_tokens.specs.Numbers.{guard_number, guard_numbers, only_number};
 
 use fields::bytes::skip;
-use fields::front::{after_front, first_from, is_whole, parts_of, tag_of};
+use fields::front::{is_whole, parts_of, tag_of};
+use fields::row::fields_at;
 use tags::{EQ, GUARD};
 use tokens::naming::beside_in_asset;
 use tokens::number::join;
@@ -37,17 +38,16 @@ pub fn only_guard_number(file: &[u8], place: usize) -> usize
     requires { Standing file.now place 0 }
     ensures { result ≡ only_number (guard_numbers file.now (placed_at file.now place)) }
 {
-    let parts = parts_of(skip(file, place));
     let mut found = 0;
-    let mut t = first_from(parts, GUARD, GUARD);
-    while is_whole(t) {
-        let number = guard_number(file, place + 3 + (parts.len() - t.len()));
+    for part in fields_at(parts_of(skip(file, place)), place + 3) {
+        if part.tag() != GUARD {
+            continue;
+        }
+        let number = guard_number(file, part.place);
         if (found != 0) & (number != 0) {
             return 0;
         }
         found = join(file, found, number);
-        let u = first_from(after_front(t), GUARD, GUARD);
-        t = u;
     }
     found
 }

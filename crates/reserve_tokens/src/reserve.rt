@@ -15,67 +15,62 @@ ghost use Rattle.reserve_tokens.specs.Each.{EachAgreed, EachAgreeing, EachAllAgr
 use super::guard::only_guard_number;
 use super::raise::{Raising, is_barred, raise_number};
 use fields::bytes::skip;
-use fields::front::{after_front, first_from, is_whole, parts_of};
-use fields::table::{number_at, wide};
+use fields::front::parts_of;
+use fields::named::Named;
+use fields::row::fields_at;
+use fundings::facts::Facts;
 use model::name_of;
-use raises::raise::{first_raise, has_raise, next_raise, raised_by};
+use raises::raise::{has_raise, is_raise, raised_by};
 use raises::zero::starts_at_zero;
-use tags::{ADD_TO, CALL, ENTRY, SET};
+use tags::{ADD_TO, CALL, ENTRY, SET, is_between};
 use tokens::number::token_of;
-use walking::parameters::{ASSET_NUMBERS, list_assets};
+use walking::parameters::{MOST_ASSETS, list_assets};
 use walking::walk::list_body;
 
 // How many state fields are gone through at once.
 pub const FIELDS: usize = 64;
 
 // What the raises of the state field of that name in an entry agree on with those before: the number of their token, 1 before the
-// first raise and 0 where one bars the field. One table has the places of all calls of the entry, and another the numbers of its
-// asset parameters.
-fn after_raises(
-    file: &[u8],
-    entry: Raising,
-    calls: &[u16],
-    assets: &[u16],
-    name: &[u8],
-    facts: &[u16],
-    before: usize,
-) -> usize
-    requires entry { RaisesOf file.now entry calls.now assets.now }
+// first raise and 0 where one bars the field.
+fn after_raises(file: &[u8], entry: &Raising, name: &[u8], facts: &Facts, before: usize) -> usize
+    requires entry { RaisesOf file.now entry.now }
     requires funded { Funded file.now facts.now }
     requires before { Agreed file.now before }
-    ensures { Agreeing file.now before (numbers_in file.now name.now (placed_at file.now entry.place)) result }
+    ensures { Agreeing file.now before (numbers_in file.now name.now (placed_at file.now entry.now.place)) result }
 {
     if before == 0 {
         return 0;
     }
     let mut agreed = before;
-    let mut t = first_raise(parts_of(skip(file, entry.place)), name);
-    while is_whole(t) {
-        let number = raise_number(file, entry, calls, assets, raised_by(name, t), facts);
+    let statements = fields_at(parts_of(skip(file, entry.place)), 0);
+    for raise in statements.filter(|statement| is_raise(name, statement.part)) {
+        let amount = raised_by(name, raise.part);
+        let number = raise_number(file, entry, amount, facts);
         if is_barred(file, agreed, number) {
             return 0;
         }
         agreed = number;
-        let u = next_raise(t, name);
-        t = u;
     }
     agreed
 }
 
 // What is the same for all raises of the entry at a place of the file. A scratch table serves for the places of its calls, and another
 // for its asset parameters.
-fn list_raising(file: &[u8], place: usize, assets: &mut [u16], scratch: &mut [u16]) -> Raising
+fn list_raising<'a>(
+    file: &[u8],
+    place: usize,
+    assets: &'a mut [Named],
+    scratch: &'a mut [u16],
+) -> Raising<'a>
     requires standing { Standing file.now place 0 }
     requires room { length file.now ≤ 3 * length scratch.old }
     ensures here { result.place ≡ place }
-    ensures within { result.calls ≤ length scratch.new }
-    ensures listed { RaisesOf file.now result (take result.calls scratch.new) assets.new }
+    ensures listed { RaisesOf file.now result }
 {
-    let calls = list_body(file, place, CALL, scratch);
     Raising {
         place: place,
         guard: only_guard_number(file, place),
-        calls: calls,
+        calls: list_body(file, place, CALL, scratch),
         assets: list_assets(skip(file, place), assets),
     }
 }
@@ -85,9 +80,9 @@ fn after_entry(
     file: &[u8],
     place: usize,
     name: &[u8],
-    facts: &[u16],
+    facts: &Facts,
     before: usize,
-    assets: &mut [u16],
+    assets: &mut [Named],
     scratch: &mut [u16],
 ) -> usize
     requires standing { Standing file.now place 0 }
@@ -100,36 +95,26 @@ fn after_entry(
         return before;
     }
     let entry = list_raising(file, place, assets, scratch);
-    after_raises(
-        file,
-        entry,
-        &scratch[..entry.calls],
-        assets,
-        name,
-        facts,
-        before,
-    )
+    after_raises(file, &entry, name, facts, before)
 }
 
 // The number of the one token of all raises; 1 where there is no raise, and 0 where one bars the field.
-fn raises_number(file: &[u8], name: &[u8], facts: &[u16], scratch: &mut [u16]) -> usize
+fn raises_number(file: &[u8], name: &[u8], facts: &Facts, scratch: &mut [u16]) -> usize
     requires short { length file.now ≤ 32768 }
     requires funded { Funded file.now facts.now }
     requires room { length file.now ≤ 3 * length scratch.old }
     ensures { AllAgree file.now name.now result }
 {
     let mut agreed = 1;
-    let mut assets = [0u16; ASSET_NUMBERS];
-    let mut t = first_from(file, ENTRY, ENTRY);
-    while is_whole(t) {
-        let place = file.len() - t.len();
-        let next = after_entry(file, place, name, facts, agreed, &mut assets, scratch);
-        if next == 0 {
+    let mut assets = [Named::default(); MOST_ASSETS];
+    for field in fields_at(file, 0) {
+        if field.tag() != ENTRY {
+            continue;
+        }
+        agreed = after_entry(file, field.place, name, facts, agreed, &mut assets, scratch);
+        if agreed == 0 {
             return 0;
         }
-        agreed = next;
-        let u = first_from(after_front(t), ENTRY, ENTRY);
-        t = u;
     }
     agreed
 }
@@ -150,7 +135,7 @@ fn started(file: &[u8], name: &[u8], agreed: usize) -> usize
 }
 
 // The same, by all entries. It means the same for the whole file.
-pub fn reserve_number(file: &[u8], name: &[u8], facts: &[u16], scratch: &mut [u16]) -> usize
+pub fn reserve_number(file: &[u8], name: &[u8], facts: &Facts, scratch: &mut [u16]) -> usize
     requires short { length file.now ≤ 32768 }
     requires funded { Funded file.now facts.now }
     requires room { length file.now ≤ 3 * length scratch.old }
@@ -164,24 +149,20 @@ pub fn reserve_number(file: &[u8], name: &[u8], facts: &[u16], scratch: &mut [u1
 // What the raises of each state field at the places of a table agree on with those of an entry, beside what they agreed on before.
 fn after_raises_of_each(
     file: &[u8],
-    entry: Raising,
-    calls: &[u16],
-    assets: &[u16],
+    entry: &Raising,
     places: &[u16],
-    facts: &[u16],
+    facts: &Facts,
     numbers: &mut [u16],
 )
-    requires entry { RaisesOf file.now entry calls.now assets.now }
+    requires entry { RaisesOf file.now entry.now }
     requires funded { Funded file.now facts.now }
     requires before { EachAgreed file.now places.now numbers.old }
-    ensures { EachAgreeing file.now places.now numbers.old (placed_at file.now entry.place) numbers.new }
+    ensures { EachAgreeing file.now places.now numbers.old (placed_at file.now entry.now.place) numbers.new }
 {
-    let mut j = 0;
-    while j < places.len() {
-        let name = name_of(skip(file, number_at(places, j)));
-        let before = wide(numbers[j]);
-        numbers[j] = after_raises(file, entry, calls, assets, name, facts, before) as u16;
-        j += 1;
+    for j in 0..places.len() {
+        let name = name_of(skip(file, usize::from(places[j])));
+        let before = usize::from(numbers[j]);
+        numbers[j] = after_raises(file, entry, name, facts, before) as u16;
     }
 }
 
@@ -190,9 +171,9 @@ fn after_entry_of_each(
     file: &[u8],
     place: usize,
     places: &[u16],
-    facts: &[u16],
+    facts: &Facts,
     numbers: &mut [u16],
-    assets: &mut [u16],
+    assets: &mut [Named],
     scratch: &mut [u16],
 )
     requires standing { Standing file.now place 0 }
@@ -201,17 +182,10 @@ fn after_entry_of_each(
     requires room { length file.now ≤ 3 * length scratch.old }
     ensures { EachAgreeing file.now places.now numbers.old (placed_at file.now place) numbers.new }
 {
-    if is_whole(first_from(parts_of(skip(file, place)), SET, ADD_TO)) {
+    let mut statements = fields_at(parts_of(skip(file, place)), 0);
+    if statements.any(|statement| is_between(SET, ADD_TO, statement.tag())) {
         let entry = list_raising(file, place, assets, scratch);
-        after_raises_of_each(
-            file,
-            entry,
-            &scratch[..entry.calls],
-            assets,
-            places,
-            facts,
-            numbers,
-        );
+        after_raises_of_each(file, &entry, places, facts, numbers);
     }
 }
 
@@ -221,12 +195,9 @@ fn start_each(file: &[u8], places: &[u16], numbers: &mut [u16])
     requires agree { EachAllAgree file.now places.now numbers.old }
     ensures { EachNumber file.now places.now numbers.new }
 {
-    let mut j = 0;
-    while j < places.len() {
-        let name = name_of(skip(file, number_at(places, j)));
-        let agreed = wide(numbers[j]);
-        numbers[j] = started(file, name, agreed) as u16;
-        j += 1;
+    for j in 0..places.len() {
+        let name = name_of(skip(file, usize::from(places[j])));
+        numbers[j] = started(file, name, usize::from(numbers[j])) as u16;
     }
 }
 
@@ -234,7 +205,7 @@ fn start_each(file: &[u8], places: &[u16], numbers: &mut [u16])
 pub fn reserve_numbers(
     file: &[u8],
     places: &[u16],
-    facts: &[u16],
+    facts: &Facts,
     scratch: &mut [u16],
 ) -> [u16; FIELDS]
     requires short { length file.now ≤ 32768 }
@@ -244,21 +215,20 @@ pub fn reserve_numbers(
     ensures { EachNumber file.now places.now result }
 {
     let mut numbers = [1u16; FIELDS];
-    let mut assets = [0u16; ASSET_NUMBERS];
-    let mut t = first_from(file, ENTRY, ENTRY);
-    while is_whole(t) {
-        let place = file.len() - t.len();
+    let mut assets = [Named::default(); MOST_ASSETS];
+    for field in fields_at(file, 0) {
+        if field.tag() != ENTRY {
+            continue;
+        }
         after_entry_of_each(
             file,
-            place,
+            field.place,
             places,
             facts,
             &mut numbers,
             &mut assets,
             scratch,
         );
-        let u = first_from(after_front(t), ENTRY, ENTRY);
-        t = u;
     }
     start_each(file, places, &mut numbers);
     numbers
@@ -268,7 +238,7 @@ pub fn reserve_numbers(
 pub fn reserve_token<'a>(
     file: &'a [u8],
     name: &[u8],
-    facts: &[u16],
+    facts: &Facts,
     scratch: &mut [u16],
 ) -> &'a [u8]
     requires short { length file.now ≤ 32768 }

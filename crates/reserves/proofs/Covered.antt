@@ -5,7 +5,7 @@ use mathlib.Core.Bool.{and-false}
 use Rattle.std.proofs.Common.{None}
 use Rattle.laws.proofs.Texts.{bytes_same}
 use Rattle.laws.specs.Texts.{same_bytes, known}
-use Rattle.laws.specs.Lists.{any, filter, find}
+use Rattle.laws.specs.Lists.{any, filter}
 use Rattle.laws.proofs.Truths.{or_right}
 use Rattle.laws.proofs.Lists.{map-filter, every-weaker, Every}
 use Rattle.laws.proofs.Finding.{find_none, find-same}
@@ -100,6 +100,6 @@ module _ (file : List ℕ) (place : ℕ) (asked : List ℕ) (k : ℕ) where
       same-tests : (r : List ℕ) → any (same_bytes r) (guarded_by entry amount) ≡ true →
           field_covers file token (lowering_numbers amount (placed_at file place)) r ≡ covering r
       same-tests r a =
-          rw (inflow, a, lowerings-decide amount file place r small)
+          rw (inflow, a, lowerings-decide amount file place r)
           (regrouped (any (lowers amount r) (body entry)) (any (same_bytes r) (state_names (fields file)))
           (known token) (same_bytes (reserve_token (fields file) r) token))

@@ -4,10 +4,10 @@ use Rattle.std.proofs.Common.{Option}
 use Prim.Native.String.{String}
 use mathlib.Core.List.{flat_map}
 use Rattle.std.proofs.Common.{None, Some}
-use Rattle.laws.specs.Lists.{any, all, filter, find}
 use Rattle.laws.specs.Texts.{same_bytes, bytes, known}
 use Rattle.tags.specs.Tag.{State, Entry, Parameter, Guard, Set, AddTo, SubtractFrom, InAsset, Member, Checked, Wrapping, And, Eq, Lt, Gt, Le, Ge, Sub, Mul, composite, is_assign}
 use Rattle.tags.specs.Tag.{is_expression, is_statement, is_wrapper}
+use Rattle.fields.specs.declared.named.Named.{Named}
 use Rattle.fields.specs.Field.{fields, fields_to, front, nth, row, fields_from, size, sizes, placed, placed_from}
 use Rattle.fields.proofs.Writing.{write, name, type_name, integer, identifier}
 use Rattle.model.specs.Model.{state_names, genesis, entries, params, body}
@@ -159,8 +159,11 @@ first-that-covers = refl
 
 -- The table of lowerings
 
+abbrev listed : (number place : ℕ) → Named
+listed number place = record { number = number; place = place }
+
 -- of the entry behind `before`, which takes 106 bytes; 24 stand before the entry's first guard, and a guard takes 33
-numbers : List (List ℕ) → List (List ℕ)
+numbers : List (List ℕ) → List (List Named)
 unfolding same_bytes fields fields_to nth composite size sizes placed flat_map is_assign is_expression is_wrapper peel peel_first walk walk_parts ident expr_eq parts_eq strip same_text
     assigns value contains_wrapping sets_from lowered_by is_lowering lowering_at lowering_numbers number_from
 numbers bodies = map (λ c. lowering_numbers (front double) (placed_at (before ++ taking c) (length before))) bodies
@@ -169,14 +172,14 @@ numbers bodies = map (λ c. lowering_numbers (front double) (placed_at (before +
 lowerings-listed : numbers
     ((guarded ++ lowered) ∷ lowered ∷ (guarded ++ write SubtractFrom (r ++ n)) ∷ (guarded ++ write AddTo (r ++ double)) ∷ (lowered ++ write SubtractFrom (s ++ double))
     ∷ [])
-    ≡ (35659 ∷ 163 ∷ []) ∷ (35659 ∷ 130 ∷ []) ∷ [] ∷ [] ∷ (35659 ∷ 130 ∷ 60692 ∷ 160 ∷ []) ∷ []
+    ≡ (listed 35659 163 ∷ []) ∷ (listed 35659 130 ∷ []) ∷ [] ∷ [] ∷ (listed 35659 130 ∷ listed 60692 160 ∷ []) ∷ []
 unfolding numbers
 lowerings-listed = refl
 
 -- whether a table of one lowering, of that number, lowers r or s
 named : ℕ → List Bool
-unfolding same_bytes fields fields_to nth composite ident lowers_at lowered_in number_from
-named number = map (λ x. lowered_in (before ++ taking lowered) (bytes x) (number ∷ 130 ∷ [])) ("r" ∷ "s" ∷ [])
+unfolding same_bytes fields fields_to nth composite ident lowers_at number_from
+named number = map (λ x. lowered_in (before ++ taking lowered) (bytes x) (listed number 130 ∷ [])) ("r" ∷ "s" ∷ [])
 
 -- its own number, that of s, and neither
 names-compared : named 35659 ++ (named 60692 ++ named 0) ≡ true ∷ false ∷ false ∷ false ∷ false ∷ false ∷ []

@@ -2,11 +2,14 @@
 use Rattle.std.proofs.Common.{ℕ, zero, suc, ◌+◌, ◌-◌, ◌≤◌, ◌<◌, ◌≡◌, refl, sym, ap, ◌∙◌, Bool, true, false, not, cond, ◌&&◌, List, [], ◌∷◌, map, arith}
 use Rattle.std.proofs.Common.{get_or, set, length, length-set, get_or-set_other, eqb, ne_eqb, drop, drop_of_length-le}
 use Rattle.std.proofs.Common.{Option, None, Some}
+use Rattle.std.specs.Option.{IfSome}
 use Rattle.laws.specs.Texts.{same_bytes}
 use Rattle.laws.specs.Lists.{any, find, position}
 use Rattle.laws.proofs.Texts.{bytes-equal}
 use Rattle.laws.proofs.Slices.{drop-step}
-use Rattle.fields.specs.Field.{Field, fields, whole, after, front, part}
+use Rattle.fields.specs.Field.{Field, fields, after, front, part}
+use Rattle.fields.specs.declared.field.Field.{Field as Found}
+use Rattle.fields.specs.declared.named.Named.{Named}
 use Rattle.fields.proofs.Reading.{after_less}
 use Rattle.model.specs.Model.{state_names}
 use Rattle.reserve_tokens.specs.ReserveTokens.{reserve_token}
@@ -15,7 +18,7 @@ use Rattle.guards.specs.Bounding.{bounding, bounding_from}
 use Rattle.guards.specs.Lowerings.{lowered_in}
 use Rattle.reserves.specs.States.{state_name, state_index, state_number}
 use Rattle.reserves.specs.Holding.{is_token, holds_token}
-use Rattle.reserves.specs.Covers.{index_in, field_covers, first_covering, lowered_number, is_held, first_holding, Ahead}
+use Rattle.reserves.specs.Covers.{index_in, field_covers, first_covering, lowered_number, is_held, first_holding, bytes_left, Ahead}
 
 -- One guard
 
@@ -29,7 +32,7 @@ named-there r (x ∷ l) h = go (same_bytes r x) refl (named-there r l)
     go true e f = rw e (sym (bytes-equal r x e))
     go false e f = rw e (f (rw e at h))
 
-module _ (file token l : List ℕ) where
+module _ (file token : List ℕ) (l : List Named) where
   abbrev index : List ℕ → ℕ
   index r = state_index (fields file) r
 
@@ -99,42 +102,56 @@ module _ (file token : List ℕ) where
 
 -- Guard by guard: n are listed
 
-pub record Listing (file l : List ℕ) (amount : Field) (guards lent t table : List ℕ) (n : ℕ) : Type 0 where
+pub record Listing (file : List ℕ) (l : List Named) (amount : Field) (guard : Found) (lent : List ℕ) (ahead : Option Found) (table : List ℕ) (n : ℕ) : Type 0 where
   pub wide : length table ≡ length lent
-  pub none : n ≡ 0 → t ≡ guards
-  pub fewer : 0 < n → length t < length guards
+  pub none : n ≡ 0 → ahead ≡ Some guard
+  pub fewer : 0 < n → bytes_left ahead < length guard.part.now
   pub unused : (i : ℕ) → n ≤ i → get_or table i 0 ≡ 0
-  pub first : (token : List ℕ) → first_covering file token l (bounding_from amount guards)
-      ≡ first_holding file token table (first_covering file token l (bounding_from amount t))
+  pub first : (token : List ℕ) → first_covering file token l (bounding_from amount (Some guard))
+      ≡ first_holding file token table (first_covering file token l (bounding_from amount ahead))
 
-module _ (file l : List ℕ) (amount : Field) (guards lent : List ℕ) where
-  pub listing-none : ((i : ℕ) → get_or lent i 0 ≡ 0) → Listing file l amount guards lent guards lent 0
+module _ (file : List ℕ) (l : List Named) (amount : Field) (guard : Found) (lent : List ℕ) where
+  pub listing-none : ((i : ℕ) → get_or lent i 0 ≡ 0) → Listing file l amount guard lent (Some guard) lent 0
   listing-none u = record {
     wide = refl;
     none = λ e. refl;
     fewer = λ h. absurd (omega (arith, h));
     unused = λ i h. u i;
-    first = λ token. sym (holding-none file token lent u (first_covering file token l (bounding_from amount guards)));
+    first = λ token. sym (holding-none file token lent u (first_covering file token l (bounding_from amount (Some guard))));
   }
 
-  module _ (t table : List ℕ) (n : ℕ) (v : Listing file l amount guards lent t table n) where
-    shorter : (y u : List ℕ) → whole t ≡ true → y ≡ after t → length u ≤ length y → length u < length guards
-    shorter y u w e h = go n v.none v.fewer
+  module _ (ahead : Option Found) (table : List ℕ) (n : ℕ) (v : Listing file l amount guard lent ahead table n) where
+    -- some are listed, or none is left
+    pub listing-end : 0 < n → Ahead file l amount guard ahead table
+    listing-end h = record { fewer = v.fewer h; first = v.first }
+
+    pub listing-all : ahead ≡ None → Ahead file l amount guard None table
+    listing-all e = rw e at (listing-end (some n v.none))
       where
-        less : length u < length t
-        less = omega (arith, h, after_less t y w e)
+        some : (n : ℕ) → (n ≡ 0 → ahead ≡ Some guard) → 0 < n
+        some zero h = cc (h refl)
+        some (suc n) h = omega arith
 
-        go : (n : ℕ) → (n ≡ 0 → t ≡ guards) → (0 < n → length t < length guards) → length u < length guards
-        go zero a b = rw (← a refl) less
-        go (suc n) a b = omega (arith, less, b (omega arith))
+  module _ (next : Found) (table : List ℕ) (n : ℕ) (v : Listing file l amount guard lent (Some next) table n) where
+    no-longer : length next.part.now ≤ length guard.part.now
+    no-longer = go n v.none v.fewer
+      where
+        go : (n : ℕ) → (n ≡ 0 → Some next ≡ Some guard) → (0 < n → length next.part.now < length guard.part.now) → length next.part.now ≤ length guard.part.now
+        go zero a b = let e : next ≡ guard = cc (a refl) in rw e (omega arith)
+        go (suc n) a b = omega (arith, b (omega arith))
 
-    pub listing-on : n < length table → whole t ≡ true → (x : List ℕ) → front x ≡ part 0 (front t) → (r : List ℕ) → r ≡ guarded_field (front x) →
-        (number : ℕ) → number ≡ lowered_number file l r → (y : List ℕ) → y ≡ after t → (u : List ℕ) → bounding amount (fields y) ≡ bounding_from amount u →
-        length u ≤ length y → Listing file l amount guards lent u (set table n number) (n + 1)
-    listing-on h w x a r b number f y e u o m = record {
+    shorter : (y : List ℕ) → y ≡ after next.part.now → (u : Option Found) → IfSome u (λ g. length g.part.now ≤ length y) → bytes_left u < length guard.part.now
+    shorter y e None m = omega (arith, no-longer, after_less next.part.now y next.there e)
+    shorter y e (Some g) m = omega (arith, no-longer, after_less next.part.now y next.there e, m)
+
+    pub listing-on : n < length table → (x : List ℕ) → front x ≡ part 0 (front next.part.now) → (r : List ℕ) → r ≡ guarded_field (front x) →
+        (number : ℕ) → number ≡ lowered_number file l r → (y : List ℕ) → y ≡ after next.part.now →
+        (u : Option Found) → bounding amount (fields y) ≡ bounding_from amount u →
+        IfSome u (λ g. length g.part.now ≤ length y) → Listing file l amount guard lent u (set table n number) (n + 1)
+    listing-on h x a r b number f y e u o m = record {
       wide = length-set table n number ∙ v.wide;
       none = λ z. absurd (omega (arith, z));
-      fewer = λ z. shorter y u w e m;
+      fewer = λ z. shorter y e u m;
       unused = λ i g. get_or-set_other table n i number 0 (λ z. absurd (omega (arith, g, z))) ∙ v.unused i (omega (arith, g));
       first = λ token.
           v.first token
@@ -142,12 +159,11 @@ module _ (file l : List ℕ) (amount : Field) (guards lent : List ℕ) where
           ∙ sym (holding-set file token table n h v.unused number (first_covering file token l (bounding_from amount u)));
     }
       where
-        here : (token : List ℕ) → first_covering file token l (bounding_from amount t) ≡ first_holding file token (number ∷ []) (first_covering file token l (bounding_from amount u))
+        here : (token : List ℕ) → first_covering file token l (bounding_from amount (Some next))
+            ≡ first_holding file token (number ∷ []) (first_covering file token l (bounding_from amount u))
         here token =
-            let z : first_covering file token l (bounding_from amount t)
-            ≡ cond (field_covers file token l r) (Some (state_index (fields file) r)) (first_covering file token l (bounding amount (fields (after t)))) =
-            rw w (one-more file token l (front t) (bounding amount (fields (after t))) r (b ∙ rw a refl)) in
-            z ∙ rw (f, ← o, e) (by-number file token l r (first_covering file token l (bounding amount (fields (after t)))))
+            one-more file token l (front next.part.now) (bounding amount (fields (after next.part.now))) r (b ∙ rw a refl)
+            ∙ rw (f, ← o, e) (by-number file token l r (first_covering file token l (bounding amount (fields (after next.part.now)))))
 
 -- Number by number
 
@@ -183,9 +199,9 @@ held-there file token (suc n) e = omega arith
 
 -- Some guards, and then those that are left
 
-module _ (file l : List ℕ) (amount : Field) (guards left numbers : List ℕ) (v : Ahead file l amount guards left numbers) (token : List ℕ) where
+module _ (file : List ℕ) (l : List Named) (amount : Field) (guard : Found) (left : Option Found) (numbers : List ℕ) (v : Ahead file l amount guard left numbers) (token : List ℕ) where
   abbrev all : Option ℕ
-  all = first_covering file token l (bounding_from amount guards)
+  all = first_covering file token l (bounding_from amount (Some guard))
 
   abbrev rest : Option ℕ
   rest = first_covering file token l (bounding_from amount left)

@@ -1,98 +1,73 @@
--- A table that is right stays right where a number that is right is written into it, and so it may be asked for the field.
-use Rattle.std.proofs.Common.{ℕ, ◌+◌, ◌≤◌, ◌<◌, ◌≡◌, refl, ◌∙◌, Bool, true, false, cond, List, arith, ltb-true, lt-ltb, le-ltb, ltb}
-use Rattle.std.proofs.Common.{length, get_or, set, replicate, length-set, get_or-set_other, drop-set-lt}
-use lib.ListN.{length-replicate, get_or-replicate}
-use Rattle.laws.proofs.Tables.{written-or-kept}
+-- Facts that are right stay right where a number that is right is remembered, and so they may be asked for the field.
+use Rattle.std.proofs.Common.{ℕ, ◌<◌, ◌≡◌, refl, sym, ◌∙◌, Bool, true, false, cond, List, Option, None, Some, arith, ltb-true, ltb-false, ltb}
+use Rattle.std.proofs.Common.{length, get_or, slice_set, replicate, length-set, get_or-set_other, get_or-set_same, eqb, eqb-true}
+use lib.ListN.{length-replicate, get_or-replicate, get_or-eq_default}
+use borrow.Author.Tests.{eqb-false}
 use Rattle.fields.specs.Field.{fields}
 use Rattle.tokens.specs.Numbers.{not_yet}
 use Rattle.reserve_tokens.specs.ReserveTokens.{reserve_token}
 use Rattle.reserve_tokens.specs.Numbers.{reserve_number}
-use Rattle.fundings.specs.Funded.{Relisted, remembered_at, state_fields, listed_from, facts_size}
+use Rattle.fundings.specs.Funded.{Relisted, remembered_at, state_fields}
+use Rattle.fundings.specs.declared.facts.Facts.{Facts}
 use Rattle.reserves.specs.States.{state_name}
-use Rattle.reserves.specs.Holding.{is_token, holds_token, Facts, Numbered}
+use Rattle.reserves.specs.Holding.{is_token, holds_token, FactsOf, Numbered}
 
 -- where nothing is worked out yet, nothing is wrong
-pub facts-none : (file facts : List ℕ) → facts ≡ replicate facts_size not_yet → Facts file facts
+pub facts-none : (file : List ℕ) (facts : Facts) → facts.listed ≡ false → facts.held ≡ replicate state_fields not_yet → FactsOf file facts
 unfolding remembered_at
-facts-none file facts e =
-    let z : get_or facts 0 0 ≡ not_yet = rw e (get_or-replicate facts_size 0 not_yet 0 (omega arith)) in
-    record {
-      funded = record {
-        long = rw e (length-replicate {A = ℕ} facts_size not_yet);
-        room = λ some. absurd (some z);
-        listed = λ some. absurd (some z);
-      };
-      right = λ i some. absurd (some (nothing i (ltb i state_fields) refl));
-    }
+facts-none file facts l e = record { funded = record { listed = λ h. cc (l, h) }; right = λ i n h. cc (rw (e, all-alike i (ltb i state_fields) refl) at h) }
   where
-    nothing : (i : ℕ) (b : Bool) → ltb i state_fields ≡ b → ◌≡◌ {A = ℕ} (cond b (get_or facts (1 + i) 0) not_yet) not_yet
-    nothing i true h = rw e (get_or-replicate facts_size (1 + i) not_yet 0 (omega (arith, ltb-true i state_fields h)))
-    nothing i false h = refl
+    all-alike : (i : ℕ) (b : Bool) → ltb i state_fields ≡ b → get_or {A = ℕ} (replicate state_fields not_yet) i not_yet ≡ not_yet
+    all-alike i true h = get_or-replicate state_fields i not_yet not_yet (ltb-true i state_fields h)
+    all-alike i false h =
+        get_or-eq_default (replicate {A = ℕ} state_fields not_yet) not_yet {n = i} (omega (arith, ltb-false i state_fields h, length-replicate {A = ℕ} state_fields not_yet))
 
-module _ (file facts : List ℕ) (v : Facts file facts) (index number : ℕ) where
+module _ (file : List ℕ) (facts : Facts) (v : FactsOf file facts) (index number : ℕ) where
   -- a number that is remembered is that of the field's token
-  pub remembered-number : number ≡ remembered_at facts index → (number ≡ not_yet → ⊥) → number ≡ reserve_number file (state_name file index)
-  remembered-number e some = e ∙ v.right index (λ z. some (e ∙ z))
+  pub remembered-number : (o : Option ℕ) → o ≡ remembered_at facts index → o ≡ Some number → (k : ℕ) → k ≡ number → k ≡ reserve_number file (state_name file index)
+  remembered-number o e g k f = f ∙ v.right index number (sym e ∙ g)
 
   -- a number that is worked out is too
   pub worked-out : (n : List ℕ) → n ≡ state_name file index → number ≡ reserve_number file n → number ≡ reserve_number file (state_name file index)
   worked-out n e f = rw (← e) f
 
-  module _ (n : List ℕ) (e : n ≡ state_name file index) (f : number ≡ reserve_number file n) where
-    written : index < state_fields → Facts file (set facts (1 + index) number)
-    unfolding remembered_at
-    written h =
-        let z : get_or (set facts (1 + index) number) 0 0 ≡ get_or facts 0 0 = get_or-set_other facts (1 + index) 0 number 0 (λ o. absurd (omega (arith, o))) in
-        record {
-          funded = record {
-            long = length-set facts (1 + index) number ∙ v.funded.long;
-            room = rw z v.funded.room;
-            listed = rw (z, drop-set-lt listed_from facts (1 + index) number (omega (arith, h))) v.funded.listed;
-          };
-          right = λ i. go i (ltb i state_fields) (v.right i);
-        }
-      where
-        Right : (i j : ℕ) → Type 0
-        Right i j = (j ≡ not_yet → ⊥) → j ≡ reserve_number file (state_name file i)
+  -- and it may be remembered
+  pub still-facts : (n : List ℕ) → n ≡ state_name file index → number ≡ reserve_number file n → (last : Facts) →
+      last ≡ record facts { held = slice_set facts.held index number } → FactsOf file last
+  unfolding remembered_at
+  still-facts n e f last g =
+      rw g (record { funded = record { listed = v.funded.listed }; right = λ i k. go i k (eqb i index) (ltb index (length facts.held)) refl refl })
+    where
+      told : (i k x : ℕ) → x ≡ number → i ≡ index → (b : Bool) → cond b None (Some x) ≡ Some k → k ≡ reserve_number file (state_name file i)
+      told i k x p q true m = cc m
+      told i k x p q false m = let o : k ≡ x = cc m in o ∙ p ∙ f ∙ rw (e, q)
 
-        go : (i : ℕ) (b : Bool) → Right i (cond b (get_or facts (1 + i) 0) not_yet) → Right i (cond b (get_or (set facts (1 + index) number) (1 + i) 0) not_yet)
-        go i true p =
-            written-or-kept (Right i) facts (1 + index) number (1 + i) p (λ o some. let z : i ≡ index = omega (arith, o) in rw (z, ← e) f)
-        go i false p = p
+      untold : (i k x : ℕ) → x ≡ not_yet → cond (eqb x not_yet) None (Some x) ≡ Some k → k ≡ reserve_number file (state_name file i)
+      untold i k x p m = cc (rw p at m)
 
-    pub still-facts : (last : List ℕ) → last ≡ cond (ltb index state_fields) (set facts (1 + index) number) facts → Facts file last
-    still-facts last g = rw g (go (ltb index state_fields) refl)
-      where
-        go : (b : Bool) → ltb index state_fields ≡ b → Facts file (cond b (set facts (1 + index) number) facts)
-        go true h = written (ltb-true index state_fields h)
-        go false h = v
+      go : (i k : ℕ) (b j : Bool) → eqb i index ≡ b → ltb index (length facts.held) ≡ j →
+          remembered_at (record facts { held = slice_set facts.held index number }) i ≡ Some k → k ≡ reserve_number file (state_name file i)
+      go i k false j h l m = v.right i k (rw (get_or-set_other facts.held index i number not_yet (eqb-false i index h)) at m)
+      go i k true true h l m =
+          let q : i ≡ index = eqb-true i index h in
+          let p : get_or (slice_set facts.held index number) i not_yet ≡ number = rw q (get_or-set_same facts.held index number not_yet (ltb-true index (length facts.held) l)) in
+          told i k (get_or (slice_set facts.held index number) i not_yet) p q (eqb (get_or (slice_set facts.held index number) i not_yet) not_yet) m
+      go i k true false h l m =
+          let q : i ≡ index = eqb-true i index h in
+          let p : get_or (slice_set facts.held index number) i not_yet ≡ not_yet =
+          get_or-eq_default (slice_set facts.held index number) not_yet {n = i} (omega (arith, length-set facts.held index number, ltb-false index (length facts.held) l, q)) in
+          untold i k (get_or (slice_set facts.held index number) i not_yet) p m
 
--- each of several numbers that are worked out may be written
-pub each-written : (file indices numbers : List ℕ) → Numbered file indices numbers → (j : ℕ) → j < length indices → (facts : List ℕ) → Facts file facts →
+-- each of several numbers that are worked out may be remembered
+pub each-written : (file indices numbers : List ℕ) → Numbered file indices numbers → (j : ℕ) → j < length indices → (facts : Facts) → FactsOf file facts →
     (number : ℕ) → number ≡ get_or numbers j 0 → (index : ℕ) → index ≡ get_or indices j 0 →
-    (last : List ℕ) → last ≡ cond (ltb index state_fields) (set facts (1 + index) number) facts → Facts file last
+    (last : Facts) → last ≡ record facts { held = slice_set facts.held index number } → FactsOf file last
 each-written file indices numbers w j h facts v number e index f last g =
     still-facts file facts v index number (state_name file index) refl (rw (e, f) (w.each j h)) last g
 
--- a table that is listed anew is right, since it remembers the same
-pub facts-relisted : (file facts : List ℕ) → Facts file facts → (last : List ℕ) → Relisted file facts last → Facts file last
+-- facts whose maps are listed are right, since they remember the same
+pub facts-relisted : (file : List ℕ) (facts : Facts) → FactsOf file facts → (last : Facts) → Relisted file facts last → FactsOf file last
 facts-relisted file facts v last w = record { funded = w.funded; right = λ i. rw (w.kept i) (v.right i) }
-
--- one number of the table
-module _ (facts : List ℕ) (index : ℕ) where
-  pub told_in : index < state_fields → (n : ℕ) → n ≡ get_or facts (1 + index) 0 → n ≡ remembered_at facts index
-  unfolding remembered_at
-  told_in h n e = rw (lt-ltb index state_fields h) e
-
-  pub told-out : state_fields ≤ index → not_yet ≡ remembered_at facts index
-  unfolding remembered_at
-  told-out h = rw (le-ltb index state_fields h)
-
-  pub set-in : index < state_fields → (n : ℕ) → set facts (1 + index) n ≡ cond (ltb index state_fields) (set facts (1 + index) n) facts
-  set-in h n = rw (lt-ltb index state_fields h)
-
-  pub set-none : state_fields ≤ index → (n : ℕ) → facts ≡ cond (ltb index state_fields) (set facts (1 + index) n) facts
-  set-none h n = rw (le-ltb index state_fields h)
 
 -- the field's token is the one that is asked for
 pub by_token : (file token : List ℕ) (index : ℕ) (t : List ℕ) → t ≡ reserve_token (fields file) (state_name file index) →

@@ -1,63 +1,36 @@
 // SPDX-License-Identifier: Apache-2.0 OR MIT
 // Whether a state field holds a token that is asked for. A field's token is worked out once for all entries of a file and then
-// remembered, in a table that the caller lends, by its number; 1 where the field holds none.
-ghost use Rattle.std.specs.Prelude.{◌≡◌, cond, ◌+◌, ◌<◌, ◌≤◌, ltb, length, set, take, drop};
+// remembered by its number; 1 where the field holds none.
+ghost use Rattle.std.specs.Prelude.{◌≡◌, ◌≤◌, length, take, drop};
 ghost use Rattle.tokens.specs.Place.{token_place};
-ghost use Rattle.fundings.specs.Funded.{state_fields, remembered_at};
 ghost use Rattle.fields.specs.Field.{fields};
 ghost use Rattle.reserve_tokens.specs.ReserveTokens.{reserve_token};
 ghost use Rattle.reserve_tokens.specs.Numbers.{reserve_number};
 ghost use Rattle.reserves.specs.States.{state_name};
-ghost use Rattle.reserves.specs.Holding.{is_token, holds_token, Facts, Known, Placing, Numbered};
+ghost use Rattle.reserves.specs.Holding.{is_token, holds_token, FactsOf, Known, Placing, Numbered};
 
 use super::state::{state_name, state_place};
 use fields::bytes::same_bytes;
-use fields::table::number_at;
-use fundings::facts::STATE_FIELDS;
+use fundings::facts::Facts;
 use reserve_tokens::reserve::{FIELDS, reserve_number, reserve_numbers};
-use tokens::number::{NOT_YET, token_of};
+use tokens::number::token_of;
 
 // Whether u is a known token and t.
+#[tactic(auto, unfolding(crate::specs::Holding::is_token, laws::specs::Texts::known))]
 fn is_token(t: &[u8], u: &[u8]) -> bool
     ensures { result ≡ is_token t.now u.now }
 {
-    if u.len() == 0 {
-        return false;
-    }
-    same_bytes(t, u)
-}
-
-// Writes a number for the state field of that number, where there is room for it.
-fn remember(number: usize, facts: &mut [u16], index: usize) -> usize
-    requires small { number < 65536 }
-    requires room { state_fields < length facts.old }
-    ensures { facts.new ≡ cond (ltb index state_fields) (set facts.old (1 + index) number) facts.old }
-{
-    if index < STATE_FIELDS {
-        facts[1 + index] = number as u16;
-        return number;
-    }
-    number
-}
-
-// What is remembered of it.
-pub fn remembered(facts: &[u16], index: usize) -> usize
-    ensures { result ≡ remembered_at facts.now index }
-{
-    if index < STATE_FIELDS {
-        return number_at(facts, 1 + index);
-    }
-    NOT_YET
+    !u.is_empty() && same_bytes(t, u)
 }
 
 // The number of the token that the state field of that number holds, worked out and remembered.
-fn work_out(file: &[u8], index: usize, facts: &mut [u16], scratch: &mut [u16]) -> usize
+fn work_out(file: &[u8], index: usize, facts: &mut Facts, scratch: &mut [u16]) -> usize
     requires { Known file.now facts.old scratch.old }
     ensures number { result ≡ reserve_number file.now (state_name file.now index) }
-    ensures facts { Facts file.now facts.new }
+    ensures facts { FactsOf file.now facts.new }
 {
     let number = reserve_number(file, state_name(file, index), facts, scratch);
-    let written = remember(number, facts, index);
+    facts.remember(index, number as u16);
     number
 }
 
@@ -67,15 +40,13 @@ fn list_places(file: &[u8], indices: &[u16], places: &mut [u16])
     requires room { length indices.now ≤ length places.old }
     ensures { Placing file.now indices.now places.new }
 {
-    let mut j = 0;
-    while j < indices.len() {
-        places[j] = state_place(file, number_at(indices, j)) as u16;
-        j += 1;
+    for j in 0..indices.len() {
+        places[j] = state_place(file, usize::from(indices[j])) as u16;
     }
 }
 
 // The numbers of the tokens that they hold.
-fn numbers_of(file: &[u8], indices: &[u16], facts: &[u16], scratch: &mut [u16]) -> [u16; FIELDS]
+fn numbers_of(file: &[u8], indices: &[u16], facts: &Facts, scratch: &mut [u16]) -> [u16; FIELDS]
     requires known { Known file.now facts.now scratch.old }
     requires few { length indices.now ≤ 64 }
     ensures { Numbered file.now indices.now result }
@@ -87,7 +58,7 @@ fn numbers_of(file: &[u8], indices: &[u16], facts: &[u16], scratch: &mut [u16]) 
 
 // Works out the tokens of the state fields of these numbers together, and remembers them. One alone is worked out where it is asked
 // for: then only the entries that raise it are gone through.
-pub fn work_out_each(file: &[u8], indices: &[u16], facts: &mut [u16], scratch: &mut [u16])
+pub fn work_out_each(file: &[u8], indices: &[u16], facts: &mut Facts, scratch: &mut [u16])
     requires known { Known file.now facts.old scratch.old }
     requires few { length indices.now ≤ 64 }
     ensures { Known file.now facts.new scratch.new }
@@ -96,32 +67,29 @@ pub fn work_out_each(file: &[u8], indices: &[u16], facts: &mut [u16], scratch: &
         return;
     }
     let numbers = numbers_of(file, indices, facts, scratch);
-    let mut j = 0;
-    while j < indices.len() {
-        let written = remember(number_at(&numbers, j), facts, number_at(indices, j));
-        j += 1;
+    for j in 0..indices.len() {
+        facts.remember(usize::from(indices[j]), numbers[j]);
     }
 }
 
 // The same, by what is remembered of the field where something is.
-fn held_number(file: &[u8], index: usize, facts: &mut [u16], scratch: &mut [u16]) -> usize
+fn held_number(file: &[u8], index: usize, facts: &mut Facts, scratch: &mut [u16]) -> usize
     requires { Known file.now facts.old scratch.old }
     ensures number { result ≡ reserve_number file.now (state_name file.now index) }
-    ensures facts { Facts file.now facts.new }
+    ensures facts { FactsOf file.now facts.new }
 {
-    let number = remembered(facts, index);
-    if number != NOT_YET {
-        return number;
+    match facts.remembered(index) {
+        Some(number) => usize::from(number),
+        None => work_out(file, index, facts, scratch),
     }
-    work_out(file, index, facts, scratch)
 }
 
 // The token that the state field of that number holds; no bytes where it holds none.
-fn held_token<'a>(file: &'a [u8], index: usize, facts: &mut [u16], scratch: &mut [u16]) -> &'a [u8]
+fn held_token<'a>(file: &'a [u8], index: usize, facts: &mut Facts, scratch: &mut [u16]) -> &'a [u8]
     requires { Known file.now facts.old scratch.old }
     ensures reads { result.now ≡ reserve_token (fields file.now) (state_name file.now index) }
     ensures shows { result.now ≡ take (length result.now) (drop (token_place file.now (reserve_number file.now (state_name file.now index))) file.now) }
-    ensures facts { Facts file.now facts.new }
+    ensures facts { FactsOf file.now facts.new }
 {
     token_of(file, held_number(file, index, facts, scratch))
 }
@@ -131,12 +99,12 @@ pub fn holds_token(
     file: &[u8],
     index: usize,
     token: &[u8],
-    facts: &mut [u16],
+    facts: &mut Facts,
     scratch: &mut [u16],
 ) -> bool
     requires { Known file.now facts.old scratch.old }
     ensures holds { result ≡ holds_token file.now token.now index }
-    ensures facts { Facts file.now facts.new }
+    ensures facts { FactsOf file.now facts.new }
 {
     is_token(held_token(file, index, facts, scratch), token)
 }

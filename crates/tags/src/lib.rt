@@ -1,8 +1,9 @@
-// The tags of the model file, and the classes of tags. A test by ranges costs no table.
+// The tags of the model file, and the classes of tags. A test by ranges costs no table. The tags are numbers and no enum: the
+// rules name them by their numbers, any byte of a file may stand in a tag's place, and the classes are ranges of numbers.
 #![tactic(auto)]
 
 ghost use Rattle.std.specs.Prelude.{◌≡◌};
-ghost use Rattle.tags.specs.Tag.{is_item, is_clause, is_statement, is_assign, is_expression, is_text, is_wrapper, composite};
+ghost use Rattle.tags.specs.Tag.{between, is_item, is_clause, is_statement, is_assign, is_expression, is_text, is_wrapper, composite};
 
 // Top level, and the parts of an entry
 pub const STATE: u8 = 0x01;
@@ -95,61 +96,77 @@ pub const REM: u8 = 0x4C;
 
 pub const SHR: u8 = 0x4D;
 
+// Whether a tag is from low to high.
+pub fn is_between(low: u8, high: u8, tag: u8) -> bool
+    ensures { result ≡ between low high tag }
+{
+    (low..=high).contains(&tag)
+}
+
 // 01 to 03, at the top level
+#[tactic(auto, unfolding(crate::specs::Tag::is_item))]
 pub fn is_item(tag: u8) -> bool
     ensures { result ≡ is_item tag }
 {
-    (STATE <= tag) & (tag <= ENTRY)
+    matches!(tag, STATE..=ENTRY)
 }
 
 // 05, 06
+#[tactic(auto, unfolding(crate::specs::Tag::is_clause))]
 pub fn is_clause(tag: u8) -> bool
     ensures { result ≡ is_clause tag }
 {
-    (LIMITS <= tag) & (tag <= DENIES)
+    matches!(tag, LIMITS..=DENIES)
 }
 
 // 10 to 16
+#[tactic(auto, unfolding(crate::specs::Tag::is_statement))]
 pub fn is_statement(tag: u8) -> bool
     ensures { result ≡ is_statement tag }
 {
-    (GUARD <= tag) & (tag <= EXPRESSION_STATEMENT)
+    matches!(tag, GUARD..=EXPRESSION_STATEMENT)
 }
 
 // 13 to 15
+#[tactic(auto, unfolding(crate::specs::Tag::is_assign))]
 pub fn is_assign(tag: u8) -> bool
     ensures { result ≡ is_assign tag }
 {
-    (SET <= tag) & (tag <= SUBTRACT_FROM)
+    matches!(tag, SET..=SUBTRACT_FROM)
 }
 
 // 30 to 3D, 40 to 4D
+#[tactic(auto, unfolding(crate::specs::Tag::is_expression))]
 pub fn is_expression(tag: u8) -> bool
     ensures { result ≡ is_expression tag }
 {
-    (INTEGER <= tag) & (tag <= WRAPPING) | (OR <= tag) & (tag <= SHR)
+    matches!(tag, INTEGER..=WRAPPING | OR..=SHR)
 }
 
 // 20, 21, 30 to 33
+#[tactic(auto, unfolding(crate::specs::Tag::is_text))]
 pub fn is_text(tag: u8) -> bool
     ensures { result ≡ is_text tag }
 {
-    (NAME <= tag) & (tag <= TYPE_NAME) | (INTEGER <= tag) & (tag <= IDENTIFIER)
+    matches!(tag, NAME..=TYPE_NAME | INTEGER..=IDENTIFIER)
 }
 
 // 3C, 3D: what `peel` takes off
+#[tactic(auto, unfolding(crate::specs::Tag::is_wrapper))]
 pub fn is_wrapper(tag: u8) -> bool
     ensures { result ≡ is_wrapper tag }
 {
-    (CHECKED <= tag) & (tag <= WRAPPING)
+    matches!(tag, CHECKED..=WRAPPING)
 }
 
-// 01 to 06, 10 to 16, 38 to 3D, 40 to 4D: the content is fields
+// 01 to 06, 10 to 16, 38 to 3D, 40 to 4D: the content is fields. As one pattern of four ranges it takes the comparison of expressions
+// a sixth more instructions.
+#[tactic(auto, unfolding(crate::specs::Tag::composite))]
 pub fn is_composite(tag: u8) -> bool
     ensures { result ≡ composite tag }
 {
-    (STATE <= tag) & (tag <= DENIES)
-        | (GUARD <= tag) & (tag <= EXPRESSION_STATEMENT)
-        | (NOT <= tag) & (tag <= WRAPPING)
-        | (OR <= tag) & (tag <= SHR)
+    matches!(tag, STATE..=DENIES)
+        | matches!(tag, GUARD..=EXPRESSION_STATEMENT)
+        | matches!(tag, NOT..=WRAPPING)
+        | matches!(tag, OR..=SHR)
 }

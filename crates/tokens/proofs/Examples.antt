@@ -2,7 +2,6 @@
 use Rattle.std.proofs.Common.{ℕ, ◌≡◌, refl, List, [], ◌∷◌, ◌++◌, map}
 use Prim.Native.String.{String}
 use mathlib.Core.List.{flat_map}
-use Rattle.laws.specs.Lists.{all, filter}
 use Rattle.laws.specs.Texts.{same_bytes, bytes, known}
 use Rattle.tags.specs.Tag.{Entry, Limits, Denies, Guard, InAsset, Checked, Wrapping, Not, Or, And, Eq, Ne, Lt, composite, is_wrapper}
 use Rattle.fields.specs.Field.{Placed, fields, fields_to, front, nth, size, sizes, placed, placed_from, place_of}

@@ -1,8 +1,8 @@
 -- An entry's number stands for the tokens that its conditions name: each condition stands in the file, and so does the token.
-use Rattle.std.proofs.Common.{ℕ, ◌+◌, ◌-◌, ◌%◌, ◌≤◌, ◌<◌, ◌≡◌, refl, sym, ◌∙◌, Bool, true, false, cond, List, [], ◌∷◌, ◌++◌, map, arith, le-leb, eqb, length, get_or, take, drop}
-use Rattle.std.proofs.Common.{drop_of_length-le, length-take-le, get_or-take, drop-drop}
+use Rattle.std.proofs.Common.{ℕ, ◌+◌, ◌-◌, ◌%◌, ◌≤◌, ◌<◌, ◌≡◌, refl, sym, ◌∙◌, Bool, true, false, cond, List, [], ◌∷◌, ◌++◌, map, arith, le-leb, eqb, length, get_or, drop}
+use Rattle.std.proofs.Common.{drop_of_length-le, drop-drop}
 use mathlib.Core.List.{flat_map}
-use Rattle.laws.specs.Lists.{all, filter}
+use Rattle.laws.specs.Lists.{filter}
 use Rattle.laws.specs.Texts.{known}
 use Rattle.laws.proofs.Lists.{Every}
 use Rattle.laws.proofs.Slices.{drop-step}
@@ -105,54 +105,36 @@ number_small file n j h r e =
 unfoldable pub mark_number : List ℕ → ℕ → ℕ → ℕ
 mark_number entry n k = condition_number n (condition_at entry k)
 
-pub record Joining (g : ℕ → ℕ) (file l : List ℕ) (n r i found : ℕ) : Type 0 where
-  pub within : i ≤ n
-  pub room : n ≤ length l
-  pub left : joined_all file found (map g (drop i (take n l))) ≡ r
-
-module _ (g : ℕ → ℕ) (file l : List ℕ) (n r i found : ℕ) (v : Joining g file l n r i found) where
-  pub joining-done : n ≤ i → found ≡ r
-  unfolding joined_all
-  joining-done h =
-      rw (drop_of_length-le (take n l) {i = i} (omega (arith, length-take-le n l v.room))) at v.left
-
-  module _ (h : i < n) (b : ℕ) (f : b ≡ g (get_or l i 0)) (u : ℕ) (q : u ≡ joined file found b) where
-    joining-here : joined_all file u (map g (drop (i + 1) (take n l))) ≡ r
-    unfolding joined_all
-    joining-here =
-        let j : i < length (take n l) = omega (arith, length-take-le n l v.room) in
-        let s : drop i (take n l) ≡ get_or l i 0 ∷ drop (i + 1) (take n l) = drop-step (take n l) i j ∙ rw (get_or-take n l i 0 h) in
-        rw (q, f) (rw s at v.left)
-
-    joining-step : Joining g file l n r (i + 1) u
-    joining-step = record { within = omega arith; room = v.room; left = joining-here }
-
-mapped-marks : (entry : List ℕ) (n : ℕ) (ks : List ℕ) → map (mark_number entry n) ks ≡ map (condition_number n) (map (condition_at entry) ks)
+pub mapped-marks : (entry : List ℕ) (n : ℕ) (ks : List ℕ) → map (mark_number entry n) ks ≡ map (condition_number n) (map (condition_at entry) ks)
 unfolding mark_number
 mapped-marks entry n [] = refl
 mapped-marks entry n (k ∷ ks) = rw (mapped-marks entry n ks)
 
-module _ (file : List ℕ) (n : ℕ) (s : List ℕ) (e : s ≡ drop n file) (l : List ℕ) (count : ℕ) where
-  -- from a set on, where the table holds the conditions
-  pub joining-from : (cs : List Condition) → count ≤ length l → map (condition_at (drop n file)) (take count l) ≡ cs → (a : ℕ) →
-      Joining (mark_number s n) file l count (joined_all file a (map (condition_number n) cs)) 0 a
-  joining-from cs room read a = record {
-    within = omega arith;
-    room = room;
-    left = rw (e, mapped-marks (drop n file) n (take count l), read);
-  }
+-- those behind the first i are left
+pub record Joining (g : ℕ → ℕ) (file l : List ℕ) (r i found : ℕ) : Type 0 where
+  pub within : i ≤ length l
+  pub ahead : joined_all file found (map g (drop i l)) ≡ r
 
-  module _ (r i found : ℕ) (v : Joining (mark_number s n) file l count r i found) (o : i < count) (k : ℕ) (f : k ≡ get_or l i 0)
-      (b : ℕ) (g : b ≡ condition_number n (condition_at s k)) (u : ℕ) (q : u ≡ joined file found b) where
+pub joining-all : (g : ℕ → ℕ) (file l : List ℕ) (a : ℕ) → Joining g file l (joined_all file a (map g l)) 0 a
+joining-all g file l a = record { within = omega arith; ahead = refl }
+
+module _ (n : ℕ) (s file l : List ℕ) (r i found : ℕ) (v : Joining (mark_number s n) file l r i found) where
+  pub joining-done : length l ≤ i → found ≡ r
+  unfolding joined_all
+  joining-done h = rw (drop_of_length-le l h) at v.ahead
+
+  module _ (h : i < length l) (k : ℕ) (f : k ≡ get_or l i 0) (b : ℕ) (g : b ≡ condition_number n (condition_at s k)) (u : ℕ) (q : u ≡ joined file found b) where
     named_here : b ≡ mark_number s n (get_or l i 0)
     unfolding mark_number
     named_here = rw (← f) g
 
-    pub joining-on : Joining (mark_number s n) file l count r (i + 1) u
-    joining-on = joining-step (mark_number s n) file l count r i found v o b named_here u q
+    here : joined_all file u (map (mark_number s n) (drop (i + 1) l)) ≡ r
+    unfolding joined_all
+    here = rw (q, named_here) (rw (drop-step l i h) at v.ahead)
+
+    pub joining-on : Joining (mark_number s n) file l r (i + 1) u
+    joining-on = record { within = omega arith; ahead = here }
 
     -- two that differ stay so
     pub joining-several : u ≡ 1 → r ≡ 1
-    joining-several d =
-        sym (joining-here (mark_number s n) file l count r i found v o b named_here u q)
-        ∙ rw d (all-several file (map (mark_number s n) (drop (i + 1) (take count l))))
+    joining-several d = sym here ∙ rw d (all-several file (map (mark_number s n) (drop (i + 1) l)))

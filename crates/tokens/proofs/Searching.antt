@@ -1,97 +1,104 @@
 -- The clauses or guards of an entry, one after the other: the set found so far and what is left have the number of all, and two
 -- that differ stay so.
-use Rattle.std.proofs.Common.{ℕ, ◌+◌, ◌-◌, ◌*◌, ◌≤◌, ◌≡◌, refl, sym, ◌∙◌, true, false, List, ◌∷◌, map, arith, leb-true, length, take, drop, length-take, length-drop}
+use Rattle.std.proofs.Common.{ℕ, ◌+◌, ◌-◌, ◌*◌, ◌≤◌, ◌≡◌, refl, sym, ap, ◌∙◌, Bool, true, false, List, ◌∷◌, map, arith, leb-true, length, take, drop, length-take, length-drop}
 use mathlib.Core.List.{flat_map, map-append}
-use Rattle.laws.proofs.Lists.{Every, every-filter}
+use Rattle.laws.specs.Lists.{filter}
+use Rattle.laws.proofs.Lists.{Every}
 use Rattle.tags.specs.Tag.{Limits, Denies, Guard, between}
 use Rattle.fields.specs.Table.{Listed}
-use Rattle.fields.specs.Field.{fields, length_of, whole, after, front, tag, parts, sizes, from, placed, placed_from}
+use Rattle.fields.specs.Field.{Placed, fields, length_of, whole, front, tag, parts, sizes, placed_from}
+use Rattle.fields.specs.Row.{shown, left, Step}
+use Rattle.fields.specs.declared.field.Fields.{Fields}
+use Rattle.fields.specs.declared.field.Field.{Field as Found}
 use Rattle.fields.proofs.Inside.{Stands, parts-stand}
-use Rattle.fields.proofs.Tables.{listed-long}
-use Rattle.fields.proofs.Rows.{rest_of, from-shorter, from_less, from-placed, rest-next}
+use Rattle.fields.proofs.InARow.{left-next, placed-end}
 use Rattle.walking.specs.Table.{placed_at}
-use Rattle.conditions.specs.Conditions.{Condition, conditions_of, conditions_from, required_conditions}
+use Rattle.conditions.specs.Conditions.{conditions_of, conditions_from, required_conditions}
 use Rattle.conditions.specs.Table.{marks, conditions_at}
 use Rattle.conditions.proofs.Callers.{table-wide, table-read}
 use Rattle.tokens.specs.Numbers.{joined_all, condition_number, joined_from, tokens_number}
 use Rattle.tokens.proofs.Joining.{joined-append, all-several}
-use Rattle.tokens.proofs.Numbers.{Joining, mark_number, joining-from}
+use Rattle.tokens.proofs.Numbers.{mark_number, mapped-marks}
 
--- what the clauses or guards from t on name, of those among the parts p of an entry at n
-abbrev numbers_from : (low high n : ℕ) (p t : List ℕ) → List ℕ
-numbers_from low high n p t = map (condition_number n) (flat_map conditions_of (rest_of low high 3 p t))
+-- what some clauses or guards of an entry at n name
+abbrev numbers_of : (n : ℕ) → List Placed → List ℕ
+numbers_of n ps = map (condition_number n) (flat_map conditions_of ps)
 
--- where t stands in the entry
-abbrev pub place_in : (p t : List ℕ) → ℕ
-place_in p t = 3 + (length p - length t)
+-- those among some parts
+abbrev chosen_from : (low high : ℕ) → List Placed → List Placed
+chosen_from low high ps = filter (λ p. between low high (tag p.this)) ps
 
--- what the clause or guard in front of t names, with the set found before it
-abbrev pub found_with : (file : List ℕ) (n : ℕ) (p t : List ℕ) (found : ℕ) → ℕ
-found_with file n p t found = joined_all file found (map (condition_number n) (conditions_at t (place_in p t)))
+-- of the entry at n these parts are left
+pub record Searching (file : List ℕ) (n low high : ℕ) (rest : Fields) (found r : ℕ) : Type 0 where
+  pub behind_head : 3 ≤ rest.place
+  pub within : rest.place + length rest.rest.now ≤ 3 + (length (drop n file) - 3)
+  pub stands : Every (Stands (drop n file)) (left rest)
+  pub ahead : joined_all file found (numbers_of n (chosen_from low high (left rest))) ≡ r
 
--- p are the parts of the entry at n, and t starts with one of its clauses or guards, or has no whole field
-pub record Searching (file : List ℕ) (n low high : ℕ) (p t : List ℕ) (found r : ℕ) : Type 0 where
-  pub within : length t ≤ length p
-  pub short : length p ≤ length (drop n file) - 3
-  pub stands : Every (Stands (drop n file)) (rest_of low high 3 p t)
-  pub left : joined_all file found (numbers_from low high n p t) ≡ r
+pub searching-all : (file : List ℕ) (n : ℕ) (s : List ℕ) → s ≡ drop n file → (low high : ℕ) (x : List ℕ) → fields x ≡ parts (front s) →
+    x ≡ take (sizes (parts (front s))) (drop 3 s) → (it all : Fields) → all ≡ it → it.rest.now ≡ x → it.place ≡ 3 → (before : ℕ) →
+    Searching file n low high all before (joined_from file low high (placed_at file n) before)
+unfolding joined_from placed_from
+searching-all file n s e low high x f g it all y r z before = record {
+  behind_head = rw (y, z) (omega arith);
+  within = rw (y, z, r, g, length-take (sizes (parts (front s))) (drop 3 s), length-drop 3 s, e) (omega arith);
+  stands = rw (y, z, r, f, ← e) (parts-stand s (record { place = 0; this = front s }) refl);
+  ahead = rw (y, z, r, f, ← e);
+}
 
-module _ (file : List ℕ) (n : ℕ) (s : List ℕ) (e : s ≡ drop n file) (low high : ℕ) (p : List ℕ) where
-  pub searching-all : fields p ≡ parts (front s) → p ≡ take (sizes (parts (front s))) (drop 3 s) → (t : List ℕ) → t ≡ from low high p → (before : ℕ) →
-      Searching file n low high p t before (joined_from file low high (placed_at file n) before)
-  unfolding joined_from placed_from
-  searching-all f g t h before = record {
-    within = rw h (from-shorter low high p);
-    short = rw (g, length-take (sizes (parts (front s))) (drop 3 s), length-drop 3 s, e) (omega arith);
-    stands = rw (h, ← from-placed low high p 3, f, ← e)
-        (every-filter (Stands s) (λ q. between low high (tag q.this)) (placed 3 (parts (front s))) (parts-stand s (record { place = 0; this = front s }) refl));
-    left = rw (h, ← from-placed low high p 3, f, ← e);
-  }
-
-module _ (file : List ℕ) (n low high : ℕ) (p t : List ℕ) (found r : ℕ) (i : Searching file n low high p t found r) where
-  pub searching-done : whole t ≡ false → found ≡ r
+module _ (file : List ℕ) (n low high : ℕ) (rest : Fields) (found r : ℕ) (i : Searching file n low high rest found r) where
+  pub searching-done : whole rest.rest.now ≡ false → found ≡ r
   unfolding flat_map joined_all
-  searching-done w = rw w at i.left
+  searching-done w = rw (placed-end rest.rest.now w rest.place) at i.ahead
 
-  module _ (w : whole t ≡ true) where
-    both-stand : Every (Stands (drop n file)) (record { place = place_in p t; this = front t } ∷ placed_from low high (3 + (length p - length (after t))) (fields (after t)))
-    both-stand = rw w at i.stands
+  module _ (f : Found) (behind : Fields) (h : Step rest f behind) (g : ℕ) (e : g ≡ tag (front f.part.now)) (b : Bool) (o : b ≡ between low high g) where
+    both-stand : Every (Stands (drop n file)) (shown f ∷ left behind)
+    both-stand = rw (left-next rest f behind h) at i.stands
 
-    -- the lent table holds its conditions
-    pub searching-here : (s : List ℕ) → s ≡ drop n file → length file ≤ 32768 → (lent : List ℕ) → length file ≤ 3 * length lent →
-        (before table : List ℕ) (count : ℕ) → length before ≡ length lent → Listed (marks (conditions_at t (place_in p t))) before 0 table count →
-        Joining (mark_number s n) file table count (found_with file n p t found) 0 found
-    searching-here s e h lent k before table count z l =
-        let d : length (drop n file) ≤ length file = rw (length-drop n file) (omega arith) in
-        let b : place_in p t + length t ≤ length (drop n file) = omega (arith, i.within, i.short, leb-true (3 + length_of t) (length t) w) in
-        let m : count ≤ length before =
-        table-wide (drop n file) (place_in p t) t both-stand.0 w b before table count l (omega (arith, d)) in
-        joining-from file n s e table count (conditions_at t (place_in p t)) (omega (arith, listed-long l))
-        (table-read (drop n file) (place_in p t) t both-stand.0 w b before table count l (omega (arith, d)) m) found
+    after-head : 3 ≤ behind.place
+    after-head = omega (arith, i.behind_head, h.behind)
 
-    -- then those behind it are left
-    abbrev behind : List ℕ
-    behind = map (condition_number n) (flat_map conditions_of (placed_from low high (3 + (length p - length (after t))) (fields (after t))))
+    behind-within : behind.place + length behind.rest.now ≤ 3 + (length (drop n file) - 3)
+    behind-within =
+        let l : length behind.rest.now ≡ length rest.rest.now - (3 + length_of rest.rest.now) = ap length h.rest ∙ length-drop (3 + length_of rest.rest.now) rest.rest.now in
+        omega (arith, i.within, h.behind, l, leb-true (3 + length_of rest.rest.now) (length rest.rest.now) h.there)
 
-    joined-on : joined_all file (found_with file n p t found) behind ≡ r
-    unfolding flat_map conditions_at
-    joined-on =
-        let h : List Condition = conditions_of (record { place = place_in p t; this = front t }) in
-        rw (
-          ← joined-append file found (map (condition_number n) h) behind,
-          ← map-append (condition_number n) h (flat_map conditions_of (placed_from low high (3 + (length p - length (after t))) (fields (after t)))),
-        ) (rw w at i.left)
-
-    pub searching-on : (k : ℕ) → k ≡ found_with file n p t found → (y u : List ℕ) → y ≡ after t → u ≡ from low high y → Searching file n low high p u k r
-    searching-on k f y u a b = record {
-      within = omega (arith, i.within, from_less low high t y u w a b);
-      short = i.short;
-      stands = rw (b, a, ← rest-next low high 3 p t i.within) both-stand.1;
-      left = rw (f, b, a, ← rest-next low high 3 p t i.within) joined-on;
+    -- another part is passed over
+    pub searching-past : b ≡ false → Searching file n low high behind found r
+    searching-past k = record {
+      behind_head = after-head;
+      within = behind-within;
+      stands = both-stand.1;
+      ahead = rw (left-next rest f behind h, ← e, ← o, k) at i.ahead;
     }
 
-    pub searching-several : found_with file n p t found ≡ 1 → 1 ≡ r
-    searching-several f = sym (all-several file behind) ∙ (rw f at joined-on)
+    module _ (k : b ≡ true) where
+      joined-on : joined_all file (joined_all file found (map (condition_number n) (conditions_of (shown f)))) (numbers_of n (chosen_from low high (left behind))) ≡ r
+      unfolding flat_map
+      joined-on =
+          rw (
+            ← joined-append file found (map (condition_number n) (conditions_of (shown f))) (numbers_of n (chosen_from low high (left behind))),
+            ← map-append (condition_number n) (conditions_of (shown f)) (flat_map conditions_of (chosen_from low high (left behind))),
+          ) (rw (left-next rest f behind h, ← e, ← o, k) at i.ahead)
+
+      -- the lent table holds its conditions
+      module _ (s : List ℕ) (q : s ≡ drop n file) (short : length file ≤ 32768) (table : List ℕ) (room : length file ≤ 3 * length table)
+          (items : List ℕ) (count : ℕ) (l : Listed (marks (conditions_of (shown f))) table 0 items count) (ks : List ℕ) (u : ks ≡ take count items) where
+        pub here-read : map (mark_number s n) ks ≡ map (condition_number n) (conditions_of (shown f))
+        unfolding conditions_at
+        here-read =
+            let d : length (drop n file) ≤ length file = rw (length-drop n file) (omega arith) in
+            let w : f.place + length f.part.now ≤ length (drop n file) =
+            rw (h.place, h.part) (omega (arith, i.behind_head, i.within, leb-true (3 + length_of rest.rest.now) (length rest.rest.now) h.there)) in
+            let m : count ≤ length table = table-wide (drop n file) f.place f.part.now both-stand.0 f.there w table items count l (omega (arith, d)) in
+            rw (u, q, mapped-marks (drop n file) n (take count items))
+            (ap (map (condition_number n)) (table-read (drop n file) f.place f.part.now both-stand.0 f.there w table items count l (omega (arith, d)) m))
+
+        pub searching-on : (v : ℕ) → v ≡ joined_all file found (map (mark_number s n) ks) → Searching file n low high behind v r
+        searching-on v j = record { behind_head = after-head; within = behind-within; stands = both-stand.1; ahead = rw (j, here-read) joined-on }
+
+        pub searching-several : joined_all file found (map (mark_number s n) ks) ≡ 1 → 1 ≡ r
+        searching-several j = sym (all-several file (numbers_of n (chosen_from low high (left behind)))) ∙ (rw (← here-read, j) at joined-on)
 
 -- an entry's clauses, and then its guards
 module _ (file : List ℕ) (n : ℕ) (named : ℕ) (e : named ≡ joined_from file Limits Denies (placed_at file n) 0) where

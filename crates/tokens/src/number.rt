@@ -10,9 +10,9 @@ ghost use Rattle.tokens.specs.Place.{token_place};
 use super::naming::{beside_in_asset, token_at};
 use conditions::list::list_conditions;
 use fields::bytes::{same_bytes, skip};
-use fields::front::{after_front, first_from, is_whole, parts_of};
-use fields::table::number_at;
-use tags::{DENIES, GUARD, LIMITS};
+use fields::front::parts_of;
+use fields::row::fields_at;
+use tags::{DENIES, GUARD, LIMITS, is_between};
 
 // What is not worked out yet: no place, no count and no set of tokens has this number.
 pub const NOT_YET: usize = 65535;
@@ -80,26 +80,24 @@ fn joined_from(
     ensures { result ≡ joined_from file.now low high (placed_at file.now place) before }
 {
     let entry = skip(file, place);
-    let parts = parts_of(entry);
     let mut found = before;
-    let mut t = first_from(parts, low, high);
-    'search: loop {
-        if !is_whole(t) {
-            break found;
+    'search: for part in fields_at(parts_of(entry), 3) {
+        if !is_between(low, high, part.tag()) {
+            continue;
         }
-        let count = list_conditions(t, 3 + (parts.len() - t.len()), table);
-        let mut i = 0;
-        while i < count {
-            let named = condition_number(entry, place, number_at(table, i));
-            found = join(file, found, named);
+        let conditions = list_conditions(part, table);
+        for &mark in conditions.listed() {
+            found = join(
+                file,
+                found,
+                condition_number(entry, place, usize::from(mark)),
+            );
             if found == 1 {
-                break 'search 1;
+                break 'search;
             }
-            i += 1;
         }
-        let u = first_from(after_front(t), low, high);
-        t = u;
     }
+    found
 }
 
 // The set of tokens that the entry at a place names: what its clauses name, and then its guards. The lent table has a number for

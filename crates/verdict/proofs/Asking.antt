@@ -1,43 +1,52 @@
 -- Questions 9 to 12: the first "no" is the verdict, and where there is none the matching is.
-use Rattle.std.proofs.Common.{ℕ, ◌-◌, ◌≤◌, ◌<◌, ◌≡◌, refl, sym, ap, ◌∙◌, Bool, true, false, List, [], ◌∷◌, arith, lt-ltb, le-ltb, ltb-true, ltb-false, ltb, length, get_or, take, drop}
-use Rattle.std.proofs.Common.{length-take, length-drop, take_all, get_or-take, get_or-drop}
+use Rattle.std.proofs.Common.{ℕ, ◌≤◌, ◌<◌, ◌≡◌, refl, sym, ap, ◌∙◌, Bool, true, false, List, [], ◌∷◌, arith, lt-ltb, le-ltb, ltb-true, ltb-false, ltb, length, get_or}
+use Rattle.std.proofs.Common.{take_all}
 use mathlib.Core.Bool.{false≢true}
-use Rattle.std.proofs.Common.{Some}
-use Rattle.laws.proofs.Lists.{Every, every-filter, every-at}
-use Rattle.fields.specs.Field.{Fields, Placed, fields, nothing, whole, front, placed, placed_from}
+use Rattle.std.proofs.Common.{Option, Some, None, IfSome, zero, suc, ◌+◌}
+use Rattle.std.specs.List.{slice_get}
+use Rattle.std.specs.Option.{option_map}
+use Rattle.std.proofs.lemmas.Option.{slice_get_within, get_or_from_slice_get}
+use Rattle.laws.proofs.Lists.{Every, every-filter, every-at, every-weaker}
+use Rattle.fields.specs.Field.{Fields, Placed, fields, nothing, placed, placed_from, size, sizes}
+use Rattle.fields.specs.Field.Fields.{end, next}
+use Rattle.fields.specs.Row.{shown as found}
+use Rattle.fields.specs.declared.field.Field.{Field}
+use Rattle.fields.proofs.Places.{tree-size}
 use Rattle.fields.proofs.Inside.{Stands, row-stands}
 use Rattle.model.specs.Model.{entries}
-use Rattle.questions.specs.Questions.{at_most}
-use Rattle.model.specs.Shown.{shown}
-use Rattle.walking.specs.Walking.{is_payout}
 use Rattle.walking.specs.Table.{placed_at}
 use Rattle.claim.specs.Verdict.{refused, entry_at, ask_entry, entry_verdict}
-use Rattle.entries.specs.Calls.{body_where}
-use Rattle.verdict.specs.Coded.{placed_verdict, backed_verdict}
-use Rattle.verdict.specs.Place.{place_of, place_of_entry, Found}
-use Rattle.verdict.specs.declared.entry.Place.{Place}
-use Rattle.verdict.specs.declared.entry.Place.TheVariants.{At, Nowhere}
+use Rattle.verdict.specs.Coded.{placed_verdict}
+use Rattle.verdict.specs.Place.{place_of_entry}
 
 -- Question 9: the entry that is shown
 
 abbrev no-entry : Placed
 no-entry = record { place = 0; this = nothing }
 
-module _ (l : List Placed) (n : ℕ) (d : Placed) where
-  shown-there : (p : Placed) → p ∷ [] ≡ take 1 (drop n l) → n < length l
-  shown-there p e = let h : 1 ≡ length (take 1 (drop n l)) = ap length e in omega (arith, rw (length-take, length-drop) at h)
-
-  shown-nth : (p : Placed) → p ∷ [] ≡ take 1 (drop n l) → get_or l n d ≡ p
-  shown-nth p e = sym (get_or-drop n l 0 d ∙ ap (λ k. get_or l k d) (omega arith)) ∙ sym (get_or-take 1 (drop n l) 0 d (omega arith)) ∙ sym (ap (λ m. get_or m 0 d) e)
-
-  none-shown : [] ≡ take 1 (drop n l) → length l ≤ n
-  none-shown e = let h : 0 ≡ length (take 1 (drop n l)) = ap length e in omega (arith, rw (length-take, length-drop) at h)
-
 pub entries-stand : (file : List ℕ) → Every (Stands file) (entries (fields file))
 unfolding entries placed_from
 entries-stand file =
     let all : Every (Stands file) (placed 0 (fields file)) = rw (take_all (length file) file (omega arith)) at (row-stands file 0 (length file)) in
     every-filter (Stands file) _ (placed 0 (fields file)) all
+
+-- and stands no further than the file's end
+row-inside : (fs : Fields) (k : ℕ) → Every (λ p. p.place ≤ k + sizes fs) (placed k fs)
+unfolding placed sizes
+row-inside (end r) k = tt
+row-inside (next f fs) k =
+    (omega arith, every-weaker (λ p. p.place ≤ k + size f + sizes fs) (λ p. p.place ≤ k + (size f + sizes fs)) (λ p h. omega arith) (placed (k + size f) fs) (row-inside fs (k + size f)))
+
+entries-inside : (file : List ℕ) → Every (λ p. p.place ≤ length file) (entries (fields file))
+unfolding entries placed_from
+entries-inside file =
+    every-filter (λ p. p.place ≤ length file) _ (placed 0 (fields file))
+    (every-weaker (λ p. p.place ≤ 0 + sizes (fields file)) (λ p. p.place ≤ length file) (λ p h. omega (arith, tree-size file)) (placed 0 (fields file)) (row-inside (fields file) 0))
+
+none-got : (l : List Placed) (n : ℕ) → slice_get l n ≡ None → length l ≤ n
+none-got [] n e = omega arith
+none-got (p ∷ l) zero e = cc
+none-got (p ∷ l) (suc n) e = let h = none-got l n e in omega (arith, h)
 
 module _ (file : List ℕ) (n : ℕ) where
   -- an entry stands at its place
@@ -46,41 +55,37 @@ module _ (file : List ℕ) (n : ℕ) where
       let q : Stands file (entry_at (fields file) n) = every-at (Stands file) (entries (fields file)) (entries-stand file) n no-entry h in
       ap (λ x. record { place = (entry_at (fields file) n).place; this = x }) (sym q)
 
-  -- what is shown is the entry, or there is none
-  module _ (r : List ℕ) (e : shown file r ≡ take 1 (drop n (entries (fields file)))) where
-    pub place-nowhere : whole r ≡ false → Found file n Nowhere
-    unfolding place_of place_of_entry
-    place-nowhere w = record {
-      same = rw (le-ltb n (length (entries (fields file))) (none-shown (entries (fields file)) n no-entry (rw w at e)));
-      inside = λ k f. absurd (false≢true cc);
-    }
+  -- the entry that was found, or there is none
+  pub place-got : (r : Option Field) → option_map found r ≡ slice_get (entries (fields file)) n → option_map (λ p. p.place) r ≡ place_of_entry file n
+  unfolding place_of_entry
+  place-got None e = rw (le-ltb n (length (entries (fields file))) (none-got (entries (fields file)) n (sym e)))
+  place-got (Some p) e =
+      rw (lt-ltb n (length (entries (fields file))) (slice_get_within (entries (fields file)) n (found p) (sym e)))
+      (ap (λ q. Some q.place) (sym (get_or_from_slice_get (entries (fields file)) n (found p) no-entry (sym e))))
 
-    pub place-there : whole r ≡ true → (k : ℕ) → k ≡ length file - length r → Found file n (At k)
-    unfolding place_of place_of_entry
-    place-there w k f =
-        let here : Placed = record { place = length file - length r; this = front r } in
-        let one : here ∷ [] ≡ take 1 (drop n (entries (fields file))) = rw w at e in
-        record {
-          same = rw (lt-ltb n (length (entries (fields file))) (shown-there (entries (fields file)) n no-entry here one))
-              (ap Some (f ∙ ap (λ p. p.place) (sym (shown-nth (entries (fields file)) n no-entry here one))));
-          inside = λ j g. let z : k ≡ j = cc in omega (arith, f, z);
-        }
+  pub place-inside : (r : Option Field) → option_map found r ≡ slice_get (entries (fields file)) n → IfSome (option_map (λ p. p.place) r) (λ place. place ≤ length file)
+  place-inside None e = tt
+  place-inside (Some p) e =
+      let here : n < length (entries (fields file)) = slice_get_within (entries (fields file)) n (found p) (sym e) in
+      let low : (get_or (entries (fields file)) n no-entry).place ≤ length file =
+      every-at (λ q. q.place ≤ length file) (entries (fields file)) (entries-inside file) n no-entry here in
+      rw (get_or_from_slice_get (entries (fields file)) n (found p) no-entry (sym e)) at low
 
-  module _ (r : Place) (v : Found file n r) where
-    pub entry-missing : r ≡ Nowhere → length (entries (fields file)) ≤ n
-    unfolding place_of place_of_entry
-    entry-missing f = go v.same (ltb n (length (entries (fields file)))) refl
+  module _ (r : Option ℕ) (v : r ≡ place_of_entry file n) where
+    pub entry-missing : r ≡ None → length (entries (fields file)) ≤ n
+    unfolding place_of_entry
+    entry-missing f = go v (ltb n (length (entries (fields file)))) refl
       where
-        go : place_of r ≡ place_of_entry file n → (b : Bool) → ltb n (length (entries (fields file))) ≡ b → length (entries (fields file)) ≤ n
+        go : r ≡ place_of_entry file n → (b : Bool) → ltb n (length (entries (fields file))) ≡ b → length (entries (fields file)) ≤ n
         go e true h = absurd (false≢true cc)
         go e false h = ltb-false n (length (entries (fields file))) h
 
-    module _ (place : ℕ) (f : r ≡ At place) where
+    module _ (place : ℕ) (f : r ≡ Some place) where
       counted-there : (n < length (entries (fields file))) × ((entry_at (fields file) n).place ≡ place)
-      unfolding place_of place_of_entry
-      counted-there = go v.same (ltb n (length (entries (fields file)))) refl
+      unfolding place_of_entry
+      counted-there = go v (ltb n (length (entries (fields file)))) refl
         where
-          go : place_of r ≡ place_of_entry file n → (b : Bool) → ltb n (length (entries (fields file))) ≡ b →
+          go : r ≡ place_of_entry file n → (b : Bool) → ltb n (length (entries (fields file))) ≡ b →
               (n < length (entries (fields file))) × ((entry_at (fields file) n).place ≡ place)
           go e true h = (ltb-true n (length (entries (fields file))) h, (cc))
           go e false h = absurd (false≢true cc)
@@ -88,14 +93,10 @@ module _ (file : List ℕ) (n : ℕ) where
       pub entry-counted : n < length (entries (fields file))
       entry-counted = counted-there.0
 
-      pub entry-inside : place ≤ length file
-      unfolding place_of
-      entry-inside = v.inside place (ap place_of f)
-
       pub entry-there : entry_at (fields file) n ≡ placed_at file place
       entry-there = stands-there entry-counted ∙ ap (placed_at file) counted-there.1
 
--- Questions 9 and 10: the first "no", or the verdict past them
+-- Question 9: the "no", or the verdict past it
 
 module _ (model : Fields) (n lent : ℕ) where
   pub ninth : length (entries model) ≤ n → entry_verdict model n lent ≡ refused 9 0
@@ -105,12 +106,3 @@ module _ (model : Fields) (n lent : ℕ) where
   pub not-ninth : n < length (entries model) → (e : Placed) → entry_at model n ≡ e → entry_verdict model n lent ≡ placed_verdict model e lent
   unfolding entry_verdict ask_entry placed_verdict
   not-ninth h e f = cc (lt-ltb n (length (entries model)) h)
-
-module _ (model : Fields) (e : Placed) (lent : ℕ) where
-  pub tenth : (p : Placed) (ps : List Placed) → drop 64 (body_where is_payout e) ≡ p ∷ ps → placed_verdict model e lent ≡ refused 10 p.place
-  unfolding placed_verdict at_most
-  tenth p ps k = cc k
-
-  pub not-tenth : drop 64 (body_where is_payout e) ≡ [] → placed_verdict model e lent ≡ backed_verdict model e lent
-  unfolding placed_verdict backed_verdict at_most
-  not-tenth k = cc k

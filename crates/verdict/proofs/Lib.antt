@@ -1,3 +1,4 @@
+pub mod Numbered
 pub mod Asking
 pub mod Written
 pub mod Running

@@ -1,5 +1,5 @@
 -- Payout by payout: those before the k-th have their covers, and those that are left decide.
-use Rattle.std.proofs.Common.{ℕ, suc, ◌+◌, ◌-◌, ◌*◌, ◌/◌, ◌%◌, ◌≤◌, ◌<◌, arith, ◌≡◌, refl, sym, ap, ◌∙◌, List, [], ◌∷◌, ◌++◌, append-nil, length, take, drop, replicate, length-append}
+use Rattle.std.proofs.Common.{ℕ, suc, ◌+◌, ◌-◌, ◌*◌, ◌/◌, ◌%◌, ◌≤◌, ◌<◌, arith, ◌≡◌, refl, ap, ◌∙◌, List, [], ◌∷◌, ◌++◌, append-nil, length, take, drop, replicate, length-append, Result, Ok, Err, None}
 use Rattle.std.proofs.Common.{drop_of_length-le, take_at, drop-cons}
 use lib.ListN.{length-replicate}
 use lib.Seq.{sets, sets-eq, length-sets}
@@ -8,12 +8,10 @@ use Rattle.walking.specs.Walking.{payouts}
 use Rattle.entries.specs.Entered.{Entered, entry_of}
 use Rattle.entries.specs.declared.entry.Entry.{Entry}
 use Rattle.entries.proofs.Reading.{field-there}
-use Rattle.tokens.specs.Numbers.{not_yet}
-use Rattle.reserves.specs.Holding.{Facts}
+use Rattle.fundings.specs.declared.facts.Facts.{Facts}
+use Rattle.reserves.specs.Holding.{FactsOf}
 use Rattle.backings.specs.Tables.{Admitted}
-use Rattle.backings.specs.Marked.{all_free}
-use Rattle.backings.specs.declared.marks.Marks.{Marks as Coded}
-use Rattle.backings.proofs.Reading.{admits-nothing}
+use Rattle.backings.specs.Marked.{all_free, uses}
 use Rattle.matching.specs.Matching.{Cover, Reason, Marks, answer, start}
 use Rattle.matching.specs.Matching.Answer.{cover, rejection}
 use Rattle.matching.specs.Standing.{backings_of, Stands}
@@ -21,19 +19,20 @@ use Rattle.matching.specs.Prepared.{Prepared, Ready, payout_at}
 use Rattle.matching.specs.Coded.{cover_of, reason_of, answer_of, Answers, AnswersFor}
 use Rattle.matching.specs.declared.answer.Cover.{Cover as CodedCover}
 use Rattle.matching.specs.declared.answer.Reason.{Reason as CodedReason}
-use Rattle.matching.specs.declared.answer.Answer.TheVariants.{Covered, Rejected}
-use Rattle.matching.specs.declared.answer.Answered.{Answered}
 use Rattle.matching.specs.declared.answer.Pass.{Pass}
 use Rattle.matching.proofs.Backed.{backings-many}
 use Rattle.matching.proofs.Kept.{start-stands}
 use Rattle.matching.proofs.Ways.{Step, a-step}
 use Rattle.claim.specs.Verdict.{Verdict, rejected, accepted, with_cover, match_from, matching, backing_count, spare, kind, index, sheet, written}
-use Rattle.claim.specs.Verdict.{outcome, first_of, second_of}
+use Rattle.claim.specs.Verdict.{first_of, second_of}
 use Rattle.claim.proofs.Backs.{Within, step-backs, step-within}
 use Rattle.claim.proofs.Fitting.{backs-below, few-states}
 use Rattle.verdict.specs.Sheet.{cover_bytes}
 use Rattle.verdict.specs.Coded.{numbers_of, numbers, matched_answer, matched_covers}
-use Rattle.verdict.specs.declared.entry.Verdict.TheVariants.{Rejected as CodedRejected, Accepted as CodedAccepted}
+use Rattle.verdict.specs.declared.entry.Objection.{Objection}
+use Rattle.verdict.specs.declared.entry.Objection.TheVariants.{Rejected}
+use Rattle.std.specs.Result.{MatchResult, IsErrAnd}
+use mathlib.Core.Bool.{false≢true}
 
 -- covers in front of those of the later payouts
 abbrev with_covers : List Cover → Verdict → Verdict
@@ -77,18 +76,23 @@ written_on cs c t u k m e h f =
     rw (g, e, ← sheet-append cs (c ∷ []))
     (take_at (sheet (cs ++ c ∷ [])) (drop (3 * k + 3) t) (3 * (k + 1)) (sheet-long (cs ++ c ∷ []) ∙ rw (length-append cs (c ∷ []), m)))
 
+-- a rejection that is made an objection
+pub objected : (Q : CodedReason → Objection → Type 0) (r : Result CodedCover CodedReason) (m : Result CodedCover Objection) →
+    MatchResult r (λ c. m ≡ Ok c) (λ q. IsErrAnd m (Q q)) → (o : Objection) → m ≡ Err o → (q : CodedReason) × (r ≡ Err q) × Q q o
+objected Q (Ok c) m h o e = absurd (false≢true cc)
+objected Q (Err q) m h o e = (q, refl, rw e at h)
+
 -- The pass so far
 
-pub record Running (file : List ℕ) (en : Entry) (start facts lent scratch bytes : List ℕ) (pass : Pass) (k : ℕ) : Type 0 where
+pub record Running (file : List ℕ) (en : Entry) (facts : Facts) (lent scratch bytes : List ℕ) (pass : Pass) (k : ℕ) : Type 0 where
   pub state : Marks
   pub done : List Cover
   pub reached : k ≤ en.payouts
   pub prepared : Prepared file en facts
-  pub held : length facts ≡ length start
   pub long : length scratch ≡ length lent
   pub room : length file ≤ 3 * length lent
   pub admits : Admitted file en.place pass.admitted
-  pub uses : pass.marks.uses ≤ k
+  pub few : uses pass.marks ≤ k
   pub stands : Stands (backings_of file en.place) pass.marks state
   pub within : Within (fields file) (entry_of file en.place) state
   pub many : length done ≡ k
@@ -98,21 +102,20 @@ pub record Running (file : List ℕ) (en : Entry) (start facts lent scratch byte
       ≡ with_covers done (match_from (fields file) (entry_of file en.place) state k (drop k (payouts (entry_of file en.place))))
 
 module _ (file : List ℕ) (en : Entry) where
-  pub running_none : (facts lent : List ℕ) → Prepared file en facts → length file ≤ 3 * length lent → (m : Coded) → m ≡ all_free →
-      Running file en facts facts lent lent (replicate 192 0) (record { marks = m; admitted = not_yet }) 0
+  pub running_none : (facts : Facts) (lent : List ℕ) → Prepared file en facts → length file ≤ 3 * length lent → (pass : Pass) → pass.marks ≡ all_free → pass.admitted ≡ None →
+      Running file en facts lent lent (replicate 192 0) pass 0
   unfolding start matching sheet all_free
-  running_none facts lent d room m e =
+  running_none facts lent d room pass e f =
       let few : length (backings_of file en.place) ≤ 64 = omega (arith, backings-many file en d.entered, d.entered.few) in
       record {
         state = start (fields file) (entry_of file en.place);
         done = [];
         reached = omega arith;
         prepared = d;
-        held = refl;
         long = refl;
         room = room;
-        admits = admits-nothing file en.place;
-        uses = rw e (omega arith);
+        admits = rw f tt;
+        few = rw e (omega arith);
         stands = rw e (start-stands (fields file) (entry_of file en.place) few);
         within = λ f k. k;
         many = refl;
@@ -121,7 +124,7 @@ module _ (file : List ℕ) (en : Entry) where
         rest = refl;
       }
 
-  module _ (start facts lent scratch bytes : List ℕ) (pass : Pass) (k : ℕ) (v : Running file en start facts lent scratch bytes pass k) where
+  module _ (facts : Facts) (lent scratch bytes : List ℕ) (pass : Pass) (k : ℕ) (v : Running file en facts lent scratch bytes pass k) where
     abbrev d : Entered file en
     d = v.prepared.entered
 
@@ -131,11 +134,8 @@ module _ (file : List ℕ) (en : Entry) where
     abbrev entry : Field
     entry = entry_of file en.place
 
-    pub running-facts : Facts file facts
+    pub running-facts : FactsOf file facts
     running-facts = v.prepared.known
-
-    pub running-held : length facts ≡ length start
-    running-held = v.held
 
     pub running-long : length scratch ≡ length lent
     running-long = v.long
@@ -149,7 +149,7 @@ module _ (file : List ℕ) (en : Entry) where
     module _ (h : k < en.payouts) where
       -- what the answer needs
       pub running-ready : Ready file en facts pass k
-      running-ready = record { prepared = v.prepared; admits = v.admits; among = h; room = omega (arith, v.uses, h, d.limit) }
+      running-ready = record { prepared = v.prepared; admits = v.admits; among = h; room = omega (arith, v.few, h, d.limit) }
 
       -- there is room for the next three bytes
       pub running-next : 3 * k + 3 ≤ length bytes
@@ -164,24 +164,20 @@ module _ (file : List ℕ) (en : Entry) where
           rw (step, field-there file en.paid en.payouts (payouts entry) d.paid d.many k h)
           (drop-cons (payouts entry) k nothing (omega (arith, h, d.many)))
 
-      -- what is known keeps its length
-      pub running-kept : (last : List ℕ) → Facts file last → length last ≡ length start
-      running-kept last right = right.funded.long ∙ sym v.prepared.known.funded.long ∙ v.held
-
-      module _ (r : Answered) (a : AnswersFor file en pass.marks k r) where
-        answers : Answers model entry (backings_of file en.place) v.state payout r
+      module _ (r : Result CodedCover CodedReason) (next : Pass) (a : AnswersFor file en pass.marks k r next.marks) where
+        answers : Answers model entry (backings_of file en.place) v.state payout r next.marks
         answers = a v.state v.stands
 
         -- a rejection is the verdict
-        module _ (q : CodedReason) (g : r.answer ≡ Rejected q) where
+        module _ (q : CodedReason) (g : r ≡ Err q) where
           running-rejected : matching model entry ≡ rejected k (reason_of q)
           unfolding match_from
           running-rejected =
               let same : answer model entry v.state payout ≡ rejection (reason_of q) = answers.same ∙ ap (λ x. answer_of x answers.after) g in
               v.rest ∙ rw (left_over, match_from, same) (still-rejected v.done k (reason_of q))
 
-          pub rejected-told : numbers_of (CodedRejected k q) ≡ matched_answer file en.place
-          unfolding numbers_of numbers outcome first_of second_of
+          pub rejected-told : numbers_of (Err (Rejected k q)) ≡ matched_answer file en.place
+          unfolding numbers_of numbers first_of second_of
           rejected-told = rw running-rejected
 
           pub rejected-unwritten : (t : List ℕ) → t ≡ matched_covers file en.place t
@@ -189,7 +185,7 @@ module _ (file : List ℕ) (en : Entry) where
           rejected-unwritten t = rw running-rejected
 
         -- a cover is one more
-        module _ (c : CodedCover) (g : r.answer ≡ Covered c) where
+        module _ (c : CodedCover) (g : r ≡ Ok c) where
           same : answer model entry v.state payout ≡ cover (cover_of c) answers.after
           same = answers.same ∙ ap (λ x. answer_of x answers.after) g
 
@@ -215,22 +211,21 @@ module _ (file : List ℕ) (en : Entry) where
               let next : k + 1 ≡ suc k = omega arith in
               v.rest ∙ rw (left_over, match_from, same, next) (one_more v.done (cover_of c) (match_from model entry answers.after (suc k) (drop (suc k) (payouts entry))))
 
-          pub running-on : r.pass.marks.uses ≤ pass.marks.uses + 1 → (last : List ℕ) → Facts file last → (used : List ℕ) → length used ≡ length scratch →
-              (next : Pass) → next ≡ r.pass → Admitted file en.place r.pass.admitted → (u : List ℕ) → u ≡ sets bytes (3 * k) (cover_bytes (cover_of c)) →
-              Running file en start last lent used u next (k + 1)
-          running-on less last right used same-used next z admits u w =
+          pub running-on : uses next.marks ≤ uses pass.marks + 1 → (last : Facts) → FactsOf file last → (used : List ℕ) → length used ≡ length scratch →
+              Admitted file en.place next.admitted → (u : List ℕ) → u ≡ sets bytes (3 * k) (cover_bytes (cover_of c)) →
+              Running file en last lent used u next (k + 1)
+          running-on less last right used same-used admits u w =
               let three : u ≡ sets bytes (3 * k) (sheet (cover_of c ∷ [])) = w ∙ ap (λ l. sets bytes (3 * k) l) (bytes_of (cover_of c) index-small) in
               record {
                 state = answers.after;
                 done = v.done ++ cover_of c ∷ [];
                 reached = omega (arith, h);
                 prepared = record { entered = d; known = right };
-                held = running-kept last right;
                 long = same-used ∙ v.long;
                 room = v.room;
-                admits = rw z admits;
-                uses = rw z (omega (arith, less, v.uses));
-                stands = rw z answers.stands;
+                admits = admits;
+                few = omega (arith, less, v.few);
+                stands = answers.stands;
                 within = step-within model entry v.state payout (cover_of c) answers.after v.within step;
                 many = rw (length-append v.done (cover_of c ∷ [])) (omega (arith, v.many));
                 wide = rw three (length-sets bytes (3 * k) (sheet (cover_of c ∷ [])) ∙ v.wide);
@@ -246,11 +241,11 @@ module _ (file : List ℕ) (en : Entry) where
         v.rest ∙ rw (none, match_from) (all-covered v.done [] ∙ rw append-nil)
 
     module _ (h : en.payouts ≤ k) where
-      pub done-told : (rest : ℕ) → rest ≡ en.total - en.payouts → numbers_of (CodedAccepted en.payouts rest) ≡ matched_answer file en.place
-      unfolding numbers_of numbers outcome first_of second_of spare backing_count
+      pub done-told : (rest : ℕ) → rest ≡ en.total - en.payouts → numbers_of (Ok (record { payouts = en.payouts; spare = rest })) ≡ matched_answer file en.place
+      unfolding numbers_of numbers first_of second_of spare backing_count
       done-told rest e =
           let i : rest ≡ spare entry = omega (arith, e, d.all, d.counted, d.many) in
-          rw (running-done h, ← i) (ap (λ n. numbers_of (CodedAccepted n rest)) (omega (arith, h, v.reached, v.many)))
+          rw (running-done h, ← i) (ap (λ n. numbers_of (Ok (record { payouts = n; spare = rest }))) (omega (arith, h, v.reached, v.many)))
 
       pub done-written : (covers left : List ℕ) → left ≡ take (3 * en.payouts) bytes ++ drop (3 * en.payouts) covers → left ≡ matched_covers file en.place covers
       unfolding written

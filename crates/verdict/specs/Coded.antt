@@ -1,5 +1,5 @@
 -- The verdict as the code gives it, by the paper's number and values.
-use Rattle.std.specs.Prelude.{ℕ, ◌*◌, List, leb, length}
+use Rattle.std.specs.Prelude.{ℕ, ◌*◌, List, leb, length, get_or, Result, Ok, Err}
 use Rattle.fields.specs.Field.{Field, Fields, Placed, fields}
 use Rattle.questions.specs.Questions.{Asked, ask, at_most, ◌and_then◌}
 use Rattle.questions.specs.Questions.Asked.{passes, fails}
@@ -7,22 +7,38 @@ use Rattle.walking.specs.Walking.{is_payout, payouts}
 use Rattle.walking.specs.Table.{placed_at}
 use Rattle.entries.specs.Calls.{body_where}
 use Rattle.entries.specs.Entered.{entry_of}
+use Rattle.entries.specs.declared.entry.Entry.{Entry}
 use Rattle.matching.specs.Coded.{reason_of}
 use Rattle.claim.specs.Verdict as rules
 use Rattle.claim.specs.Verdict.Verdict.{refused}
-use Rattle.verdict.specs.declared.entry.Verdict.{Verdict}
-use Rattle.verdict.specs.declared.entry.Verdict.TheVariants.{Refused, Rejected, Accepted}
+use Rattle.questions.specs.Answers.{number_of}
+use Rattle.verdict.specs.Outcomes.{outcome_of}
+use Rattle.verdict.specs.declared.entry.Accepted.{Accepted}
+use Rattle.verdict.specs.declared.entry.Objection.{Objection}
+use Rattle.verdict.specs.declared.entry.Objection.TheVariants.{Refused, Rejected}
 use Rattle.verdict.specs.declared.numbers.Numbers.{Numbers}
+use Rattle.verdict.specs.declared.numbers.Outcome.TheVariants as outcome
 
--- the paper's number and values of each case of the code's verdict
-unfoldable pub numbers_of : Verdict → Numbers
-numbers_of (Accepted payouts spare) = record { outcome = 0; first = payouts; second = spare }
-numbers_of (Rejected payout why) = record { outcome = 1; first = payout; second = rules.reason (reason_of why) }
-numbers_of (Refused number place) = record { outcome = 2; first = number; second = place }
+-- the verdict of the code: what is accepted, or an objection
+abbrev pub Told : Type 0
+Told = Result Accepted Objection
 
--- those of a verdict of the rules on an entry
+-- what each case of it is, with the paper's values
+unfoldable pub numbers_of : Told → Numbers
+numbers_of (Ok accepted) = record { outcome = outcome.Accepted; first = accepted.payouts; second = accepted.spare }
+numbers_of (Err (Rejected payout why)) = record { outcome = outcome.Rejected; first = payout; second = rules.reason (reason_of why) }
+numbers_of (Err (Refused refusal)) = record { outcome = outcome.Refused; first = number_of refusal.question; second = refusal.place }
+
+-- the same of a verdict of the rules on an entry
 unfoldable pub numbers : Field → rules.Verdict → Numbers
-numbers entry v = record { outcome = rules.outcome v; first = rules.first_of v; second = rules.second_of entry v }
+numbers entry v = record { outcome = outcome_of v; first = rules.first_of v; second = rules.second_of entry v }
+
+-- questions 10 to 12 of an entry as it is read, with as many bytes of covers lent
+unfoldable pub ask_counted : Entry → ℕ → Asked
+ask_counted e lent =
+    ask (leb e.payouts 64) 10 (get_or e.paid 64 0)
+    and_then ask (leb e.total 64) 11 e.place
+    and_then ask (leb (3 * e.payouts) lent) 12 0
 
 -- questions 11 and 12 of an entry at a place, and before them question 10
 abbrev pub ask_backed : Placed → ℕ → Asked

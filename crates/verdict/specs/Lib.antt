@@ -1,3 +1,4 @@
+pub mod Outcomes
 pub mod Sheet
 pub mod Coded
 pub mod Place

@@ -1,21 +1,20 @@
 // SPDX-License-Identifier: Apache-2.0 OR MIT
 // The verdict on an entry: it is read, questions 10 to 12 are asked, and then it is gone through payout by payout.
-ghost use Rattle.std.specs.Prelude.{◌≡◌, ◌-◌, ◌*◌, ◌≤◌, length};
+ghost use Rattle.std.specs.Prelude.{◌≡◌, ◌*◌, ◌≤◌, length, IfSome};
 ghost use Rattle.entries.specs.Entered.{Read, Entered};
-ghost use Rattle.reserves.specs.Holding.{Facts, Known};
+ghost use Rattle.reserves.specs.Holding.{FactsOf, Known};
 ghost use Rattle.matching.specs.Prepared.{Prepared};
-ghost use Rattle.verdict.specs.Place.{Found};
-ghost use Rattle.verdict.specs.Coded.{numbers_of, placed_answer, placed_covers, matched_answer, matched_covers, entry_answer, entry_covers};
+ghost use Rattle.questions.specs.Answers.{asked};
+ghost use Rattle.verdict.specs.declared.entry.Objection.TheVariants.{Refused};
+ghost use Rattle.verdict.specs.Place.{place_of_entry};
+ghost use Rattle.verdict.specs.Coded.{ask_counted, numbers_of, placed_answer, placed_covers, matched_answer, matched_covers, entry_answer, entry_covers};
 
 use super::sheet::{copy_sheet, write_cover};
-use backings::marks::all_free;
 use entries::entry::{Entry, read_entry};
-use fields::front::is_whole;
-use fields::table::number_at;
-use fundings::facts::{list_facts, nothing_known};
-use matching::answer::{Answer, Pass, Reason, answer_payout};
+use fundings::facts::{Facts, nothing_known};
+use matching::answer::{Pass, Payout, Reason};
 use model::nth_entry;
-use tokens::number::NOT_YET;
+use questions::question::{Answer, Question, Refusal};
 use walking::walk::MOST_FIELDS;
 
 // Most files are no longer than this, and need a table of a fifth of the size, which is sooner cleared.
@@ -24,140 +23,137 @@ pub const SHORT_FILE: usize = 6144;
 // A number for each three bytes of such a file.
 pub const SHORT_FIELDS: usize = 2048;
 
-// A "no" to a question; a payout that nothing covers, and why; or the number of payouts, each of which has a cover, and of the
-// backings beyond them.
-#[derive(Drop)]
-pub enum Verdict {
-    Refused { number: u8, place: usize },
-    Rejected { payout: usize, reason: Reason },
-    Accepted { payouts: usize, spare: usize },
+// The number of payouts, each of which has a cover, and of the backings beyond them.
+#[derive(Clone, Copy)]
+pub struct Accepted {
+    pub payouts: usize,
+    pub spare: usize,
 }
 
-// How many are left of a number, or 0.
-pub fn less(a: usize, b: usize) -> usize
-    ensures { result ≡ a - b }
-{
-    if b < a {
-        return a - b;
-    }
-    0
+// A "no" to a question; or a payout that nothing covers, and why.
+#[derive(Clone, Copy)]
+pub enum Objection {
+    Refused(Refusal),
+    Rejected { payout: usize, reason: Reason },
 }
+
+impl From<Refusal> for Objection {
+    ghost from_gives = { λ refusal objection. objection ≡ Refused refusal };
+
+    fn from(refusal: Refusal) -> Objection {
+        Objection::Refused(refusal)
+    }
+}
+
+// The entry is accepted, or there is an objection.
+pub type Verdict = Result<Accepted, Objection>;
 
 // The entry, payout by payout. The covers are written at the end, where each payout has one.
 fn match_payouts(
     file: &[u8],
-    entry: Entry,
-    facts: &mut [u16],
+    entry: &Entry,
+    facts: &mut Facts,
     scratch: &mut [u16],
     covers: &mut [u8],
 ) -> Verdict
-    requires prepared { Prepared file.now entry facts.old }
+    requires prepared { Prepared file.now entry.now facts.old }
     requires scratch { length file.now ≤ 3 * length scratch.old }
-    requires room { 3 * entry.payouts ≤ length covers.old }
-    ensures answer { numbers_of result ≡ matched_answer file.now entry.place }
-    ensures covers { covers.new ≡ matched_covers file.now entry.place covers.old }
-    ensures facts { Facts file.now facts.new }
+    requires room { 3 * entry.now.payouts ≤ length covers.old }
+    ensures answer { numbers_of result ≡ matched_answer file.now entry.now.place }
+    ensures covers { covers.new ≡ matched_covers file.now entry.now.place covers.old }
+    ensures facts { FactsOf file.now facts.new }
 {
     let mut sheet = [0u8; 192];
-    let mut pass = Pass {
-        marks: all_free(),
-        admitted: NOT_YET,
-    };
+    let mut pass = Pass::start();
     let count = entry.payouts;
-    let mut k = 0;
-    while k < count {
-        let answered = answer_payout(file, entry, pass, k, facts, scratch);
-        let answer = answered.answer;
-        match answer {
-            Answer::Rejected { reason } => {
-                return Verdict::Rejected {
-                    payout: k,
-                    reason: reason,
-                };
-            }
-            Answer::Covered { cover } => {
-                let written = write_cover(cover, &mut sheet, k);
-            }
-        }
-        let after = answered.pass;
-        pass = after;
-        k += 1;
+    for k in 0..count {
+        let answer = pass.answer_payout(&Payout { file, entry, k }, facts, scratch);
+        let cover = answer.map_err(|reason| Objection::Rejected { payout: k, reason })?;
+        write_cover(cover, &mut sheet, k);
     }
     copy_sheet(&sheet, 3 * count, covers);
-    Verdict::Accepted {
+    Ok(Accepted {
         payouts: count,
-        spare: less(entry.total, count),
-    }
+        spare: entry.total.saturating_sub(count),
+    })
 }
 
 // Lists the maps that some call of the file funds, where a debit may ask for its map's token. A reserve that asks for one has them
 // listed by itself.
-fn list_if_asked(file: &[u8], debits: usize, facts: &mut [u16], scratch: &mut [u16]) -> usize
+fn list_if_asked(file: &[u8], debits: usize, facts: &mut Facts, scratch: &mut [u16])
     requires { Known file.now facts.old scratch.old }
-    ensures { Facts file.now facts.new }
+    ensures { FactsOf file.now facts.new }
 {
-    if debits == 0 {
-        return 0;
+    if debits != 0 {
+        facts.list_facts(file, scratch);
     }
-    list_facts(file, facts, scratch)
 }
 
 // The entry past questions 10 to 12.
 fn cover_payouts(
     file: &[u8],
-    entry: Entry,
-    facts: &mut [u16],
+    entry: &Entry,
+    facts: &mut Facts,
     scratch: &mut [u16],
     covers: &mut [u8],
 ) -> Verdict
-    requires entered { Entered file.now entry }
+    requires entered { Entered file.now entry.now }
     requires known { Known file.now facts.old scratch.old }
-    requires room { 3 * entry.payouts ≤ length covers.old }
-    ensures answer { numbers_of result ≡ matched_answer file.now entry.place }
-    ensures covers { covers.new ≡ matched_covers file.now entry.place covers.old }
-    ensures facts { Facts file.now facts.new }
+    requires room { 3 * entry.now.payouts ≤ length covers.old }
+    ensures answer { numbers_of result ≡ matched_answer file.now entry.now.place }
+    ensures covers { covers.new ≡ matched_covers file.now entry.now.place covers.old }
+    ensures facts { FactsOf file.now facts.new }
 {
-    let listed = list_if_asked(file, entry.debits, facts, scratch);
+    list_if_asked(file, entry.debits, facts, scratch);
     match_payouts(file, entry, facts, scratch, covers)
+}
+
+// Questions 10 to 12 of an entry, with as many bytes of covers lent.
+#[tactic(auto, unfolding(crate::specs::Coded::ask_counted))]
+fn ask_entry(entry: &Entry, lent: usize) -> Answer
+    ensures { asked result ≡ ask_counted entry.now lent }
+{
+    if 64 < entry.payouts {
+        return Err(Refusal {
+            question: Question::PayoutCount,
+            place: usize::from(entry.paid[64]),
+        });
+    }
+    if 64 < entry.total {
+        return Err(Refusal {
+            question: Question::BackingCount,
+            place: entry.place,
+        });
+    }
+    if lent < 3 * entry.payouts {
+        return Err(Refusal {
+            question: Question::CoversLength,
+            place: 0,
+        });
+    }
+    Ok(())
 }
 
 // Questions 10 to 12 of the entry, and then its payouts, where there are some.
 fn asked_verdict(
     file: &[u8],
-    entry: Entry,
-    facts: &mut [u16],
+    entry: &Entry,
+    facts: &mut Facts,
     scratch: &mut [u16],
     covers: &mut [u8],
 ) -> Verdict
-    requires read { Read file.now entry }
+    requires read { Read file.now entry.now }
     requires known { Known file.now facts.old scratch.old }
-    ensures answer { numbers_of result ≡ placed_answer file.now entry.place (length covers.old) }
-    ensures covers { covers.new ≡ placed_covers file.now entry.place covers.old }
-    ensures facts { Facts file.now facts.new }
+    ensures answer { numbers_of result ≡ placed_answer file.now entry.now.place (length covers.old) }
+    ensures covers { covers.new ≡ placed_covers file.now entry.now.place covers.old }
+    ensures facts { FactsOf file.now facts.new }
 {
-    if 64 < entry.payouts {
-        return Verdict::Refused {
-            number: 10,
-            place: number_at(&entry.paid, 64),
-        };
-    }
-    if 64 < entry.total {
-        return Verdict::Refused {
-            number: 11,
-            place: entry.place,
-        };
-    }
-    if covers.len() < 3 * entry.payouts {
-        return Verdict::Refused {
-            number: 12,
-            place: 0,
-        };
-    }
+    ask_entry(entry, covers.len())?;
     if entry.payouts == 0 {
-        return Verdict::Accepted {
+        return Ok(Accepted {
             payouts: 0,
             spare: entry.total,
-        };
+        });
     }
     cover_payouts(file, entry, facts, scratch, covers)
 }
@@ -167,7 +163,7 @@ fn asked_verdict(
 pub fn placed_verdict(
     file: &[u8],
     place: usize,
-    facts: &mut [u16],
+    facts: &mut Facts,
     scratch: &mut [u16],
     covers: &mut [u8],
 ) -> Verdict
@@ -175,46 +171,45 @@ pub fn placed_verdict(
     requires known { Known file.now facts.old scratch.old }
     ensures answer { numbers_of result ≡ placed_answer file.now place (length covers.old) }
     ensures covers { covers.new ≡ placed_covers file.now place covers.old }
-    ensures facts { Facts file.now facts.new }
+    ensures facts { FactsOf file.now facts.new }
 {
     let entry = read_entry(file, place, scratch);
-    asked_verdict(file, entry, facts, scratch, covers)
+    asked_verdict(file, &entry, facts, scratch, covers)
 }
 
-// The same with tables of its own. Most files are short, and a short table is soon cleared.
+// The same with tables of its own.
+fn verdict_with<const FIELDS: usize>(file: &[u8], place: usize, covers: &mut [u8]) -> Verdict
+    requires short { length file.now ≤ 32768 }
+    requires inside { place ≤ length file.now }
+    requires room { length file.now ≤ 3 * FIELDS }
+    requires small { FIELDS ≤ 32768 }
+    ensures answer { numbers_of result ≡ placed_answer file.now place (length covers.old) }
+    ensures covers { covers.new ≡ placed_covers file.now place covers.old }
+{
+    let mut facts = nothing_known();
+    let mut scratch = [0u16; FIELDS];
+    placed_verdict(file, place, &mut facts, &mut scratch, covers)
+}
+
+// Most files are short, and a short table is soon cleared.
 fn verdict_at(file: &[u8], place: usize, covers: &mut [u8]) -> Verdict
     requires short { length file.now ≤ 32768 }
     requires inside { place ≤ length file.now }
     ensures answer { numbers_of result ≡ placed_answer file.now place (length covers.old) }
     ensures covers { covers.new ≡ placed_covers file.now place covers.old }
 {
-    let mut facts = nothing_known();
     if file.len() <= SHORT_FILE {
-        let mut scratch = [0u16; SHORT_FIELDS];
-        return placed_verdict(file, place, &mut facts, &mut scratch, covers);
+        return verdict_with::<SHORT_FIELDS>(file, place, covers);
     }
-    let mut scratch = [0u16; MOST_FIELDS];
-    placed_verdict(file, place, &mut facts, &mut scratch, covers)
+    verdict_with::<MOST_FIELDS>(file, place, covers)
 }
 
-// Where the entry with a number stands in the file, if there is one.
-#[derive(Drop)]
-pub enum Place {
-    At { place: usize },
-    Nowhere,
-}
-
-// The place of the n-th entry, counted from 0.
-pub fn place_of_entry(file: &[u8], n: usize) -> Place
-    ensures { Found file.now n result }
+// Where the n-th entry stands in the file, counted from 0, if there is one.
+pub fn place_of_entry(file: &[u8], n: usize) -> Option<usize>
+    ensures place { result ≡ place_of_entry file.now n }
+    ensures inside { IfSome result (λ place. place ≤ length file.now) }
 {
-    let entry = nth_entry(file, n);
-    if !is_whole(entry) {
-        return Place::Nowhere;
-    }
-    Place::At {
-        place: less(file.len(), entry.len()),
-    }
+    nth_entry(file, n).map(|entry| entry.place)
 }
 
 // The verdict on the n-th entry of a file that passes question 1.
@@ -223,11 +218,9 @@ pub fn entry_verdict(file: &[u8], n: usize, covers: &mut [u8]) -> Verdict
     ensures answer { numbers_of result ≡ entry_answer file.now n (length covers.old) }
     ensures covers { covers.new ≡ entry_covers file.now n covers.old }
 {
-    match place_of_entry(file, n) {
-        Place::Nowhere => Verdict::Refused {
-            number: 9,
-            place: 0,
-        },
-        Place::At { place } => verdict_at(file, place, covers),
-    }
+    let place = place_of_entry(file, n).ok_or(Refusal {
+        question: Question::EntryNumber,
+        place: 0,
+    })?;
+    verdict_at(file, place, covers)
 }

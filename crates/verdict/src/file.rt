@@ -5,7 +5,6 @@ ghost use Rattle.claim.specs.Verdict.{verdict, written};
 ghost use Rattle.verdict.specs.Coded.{numbers_of, file_answer};
 
 use super::entry::{Verdict, entry_verdict};
-use questions::check::Answer;
 use questions::file::check_file;
 
 // The verdict on the n-th entry, counted from 0. The covers are written where it is accepted, and nothing is written otherwise.
@@ -13,11 +12,6 @@ pub fn file_verdict(file: &[u8], n: usize, covers: &mut [u8]) -> Verdict
     ensures answer { numbers_of result ≡ file_answer file.now n (length covers.old) }
     ensures covers { covers.new ≡ written (verdict file.now n (length covers.old)) covers.old }
 {
-    match check_file(file) {
-        Answer::Refused { number, place } => Verdict::Refused {
-            number: number,
-            place: place,
-        },
-        Answer::Passes => entry_verdict(file, n, covers),
-    }
+    check_file(file)?;
+    entry_verdict(file, n, covers)
 }

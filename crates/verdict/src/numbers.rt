@@ -1,53 +1,55 @@
 // A verdict as numbers.
 ghost use Rattle.std.specs.Prelude.{◌≡◌};
-ghost use Rattle.matching.specs.Coded.{reason_of};
-ghost use Rattle.claim.specs.Verdict.{reason};
 ghost use Rattle.verdict.specs.Coded.{numbers_of};
+ghost use Rattle.verdict.specs.Outcomes.{outcome_number};
 
-use super::entry::Verdict;
-use matching::answer::Reason;
+use super::entry::{Objection, Verdict};
 
-// What the verdict is, 0 accepted, 1 rejected, 2 refused, and two numbers beside (Verdict in the specs of crates/claim).
+// What a verdict is, with the rules' numbers; those of several entries are as bad as the largest.
+#[derive(Clone, Copy, PartialEq, Eq, PartialOrd, Ord)]
+pub enum Outcome {
+    Accepted = 0,
+    Rejected = 1,
+    Refused = 2,
+}
+
+impl From<Outcome> for u8 {
+    ghost from_gives = { λ outcome number. number ≡ outcome_number outcome };
+
+    fn from(outcome: Outcome) -> u8 {
+        outcome as u8
+    }
+}
+
+// What the verdict is, and two numbers beside (Verdict in the specs of crates/claim).
 #[derive(Clone, Copy)]
 pub struct Numbers {
-    pub outcome: u8,
+    pub outcome: Outcome,
     pub first: usize,
     pub second: usize,
 }
 
-// The number of a reason.
-fn number_of(why: Reason) -> usize
-    ensures { result ≡ reason (reason_of why) }
-{
-    match why {
-        Reason::SplitWithoutAmount => 1,
-        Reason::ConflictAtEqual => 2,
-        Reason::AmountTaken => 3,
-        Reason::ConflictAtBounding => 4,
-        Reason::NoReserve => 5,
-        Reason::ReserveUsed => 6,
-    }
-}
+impl From<Verdict> for Numbers {
+    ghost from_gives = { λ verdict numbers. numbers ≡ numbers_of verdict };
 
-// The numbers of a verdict.
-pub fn numbers_of(verdict: Verdict) -> Numbers
-    ensures { result ≡ numbers_of verdict }
-{
-    match verdict {
-        Verdict::Accepted { payouts, spare } => Numbers {
-            outcome: 0,
-            first: payouts,
-            second: spare,
-        },
-        Verdict::Rejected { payout, reason } => Numbers {
-            outcome: 1,
-            first: payout,
-            second: number_of(reason),
-        },
-        Verdict::Refused { number, place } => Numbers {
-            outcome: 2,
-            first: number as usize,
-            second: place,
-        },
+    #[tactic(auto, using(crate::proofs::Numbered::reason_told), unfolding(crate::specs::Coded::numbers_of))]
+    fn from(verdict: Verdict) -> Numbers {
+        match verdict {
+            Ok(accepted) => Numbers {
+                outcome: Outcome::Accepted,
+                first: accepted.payouts,
+                second: accepted.spare,
+            },
+            Err(Objection::Rejected { payout, reason }) => Numbers {
+                outcome: Outcome::Rejected,
+                first: payout,
+                second: usize::from(reason),
+            },
+            Err(Objection::Refused(refusal)) => Numbers {
+                outcome: Outcome::Refused,
+                first: usize::from(u8::from(refusal.question)),
+                second: refusal.place,
+            },
+        }
     }
 }

@@ -6,19 +6,19 @@ ghost use Rattle.matching.specs.Coded.{cover_of};
 ghost use Rattle.claim.specs.Verdict.{kind, index};
 ghost use Rattle.verdict.specs.Sheet.{cover_bytes};
 
-use fields::bytes::byte_at;
 use matching::answer::Cover;
 
-// The kind of a cover.
+// The kind of a cover. It is no `From`: that would have to stand in crates/matching, with Cover, and the rules' numbers of the kinds
+// stand above it, in crates/claim.
 fn kind_of(cover: Cover) -> u8
     ensures { result ≡ kind (cover_of cover) }
 {
     match cover {
-        Cover::EqualDebit { index: _ } => 1,
-        Cover::EqualParameter { index: _ } => 2,
-        Cover::BoundingDebit { index: _ } => 3,
-        Cover::BoundingParameter { index: _ } => 4,
-        Cover::Reserve { index: _ } => 5,
+        Cover::EqualDebit { .. } => 1,
+        Cover::EqualParameter { .. } => 2,
+        Cover::BoundingDebit { .. } => 3,
+        Cover::BoundingParameter { .. } => 4,
+        Cover::Reserve { .. } => 5,
     }
 }
 
@@ -27,25 +27,22 @@ fn index_of(cover: Cover) -> usize
     ensures { result ≡ index (cover_of cover) }
 {
     match cover {
-        Cover::EqualDebit { index } => index,
-        Cover::EqualParameter { index } => index,
-        Cover::BoundingDebit { index } => index,
-        Cover::BoundingParameter { index } => index,
-        Cover::Reserve { index } => index,
+        Cover::EqualDebit { index }
+        | Cover::EqualParameter { index }
+        | Cover::BoundingDebit { index }
+        | Cover::BoundingParameter { index }
+        | Cover::Reserve { index } => index,
     }
 }
 
 // Writes the three bytes of a cover as the k-th of a sheet.
-pub fn write_cover(cover: Cover, sheet: &mut [u8], k: usize) -> usize
+pub fn write_cover(cover: Cover, sheet: &mut [u8], k: usize)
     requires { 3 * k + 3 ≤ length sheet.old }
     ensures { sheet.new ≡ sets sheet.old (3 * k) (cover_bytes (cover_of cover)) }
 {
     let at = 3 * k;
-    let index = index_of(cover);
-    sheet[at] = kind_of(cover);
-    sheet[at + 1] = (index / 256 % 256) as u8;
-    sheet[at + 2] = (index % 256) as u8;
-    at
+    let [high, low] = ((index_of(cover) % 65536) as u16).to_be_bytes();
+    sheet[at..at + 3].copy_from_slice(&[kind_of(cover), high, low]);
 }
 
 // Copies the first n bytes of a sheet into the lent covers, and leaves what stands behind them.
@@ -54,9 +51,5 @@ pub fn copy_sheet(sheet: &[u8], n: usize, covers: &mut [u8])
     requires there { n ≤ length sheet.now }
     ensures { covers.new ≡ take n sheet.now ++ drop n covers.old }
 {
-    let mut i = 0;
-    while i < n {
-        covers[i] = byte_at(sheet, i);
-        i += 1;
-    }
+    covers[..n].copy_from_slice(&sheet[..n]);
 }

@@ -3,11 +3,10 @@
 use Rattle.std.proofs.Common.{ℕ, ◌≡◌, refl, true, false, List, [], ◌∷◌, ◌++◌, map, length}
 use mathlib.Core.List.{flat_map}
 use lib.Seq.{sets}
-use Rattle.laws.specs.Lists.{filter}
 use Rattle.laws.specs.Texts.{bytes, same_bytes}
 use Rattle.tags.specs.Tag.{Entry, Parameter, Limits, Guard, Let, Set, ExpressionStatement, Identifier, Caller, Not, Member, Call}
 use Rattle.tags.specs.Tag.{Checked, Wrapping, Sub, Gt, composite, is_expression, is_statement, is_wrapper}
-use Rattle.fields.specs.Field.{fields, fields_to, front, nth, nothing, tag, part, row, fields_from, size, sizes, placed, placed_from}
+use Rattle.fields.specs.Field.{fields, fields_to, front, nth, nothing, tag, part, row, fields_from, size, sizes, placed}
 use Rattle.fields.specs.Number.{short_number, number_from}
 use Rattle.fields.proofs.Writing.{write, name, type_name, identifier}
 use Rattle.model.specs.Model.{params}
@@ -15,7 +14,7 @@ use Rattle.walking.specs.Walking.{peel, peel_first, peel_place, peel_first_place
 use Rattle.walking.specs.Walking.{guards, ident, method, receiver, is_debit, is_payout, asset_amount_backer, is_asset_parameter}
 use Rattle.walking.specs.Walking.{asset_params, debits, payouts}
 use Rattle.walking.specs.Table.{places_of}
-use Rattle.walking.specs.Assets.{parameter_numbers, asset_numbers}
+use Rattle.walking.specs.Assets.{named_parameter, named_assets}
 
 -- the identifiers n and m, and m.debit
 abbrev n : List ℕ
@@ -140,9 +139,10 @@ assets : asset_params (front two-assets) ≡ bytes "a" ∷ bytes "b" ∷ []
 unfolding fields fields_to nth composite row fields_from same_bytes params is_asset_parameter asset_params two-assets
 assets = refl
 
--- the two numbers of each
-listed-assets : asset_numbers (front two-assets) ≡ short_number (bytes "a") ∷ 7 ∷ short_number (bytes "b") ∷ 43 ∷ []
-unfolding fields fields_to nth composite size sizes placed placed_from flat_map same_bytes is_asset_parameter parameter_numbers asset_numbers number_from two-assets
+-- what is listed of each
+listed-assets : named_assets (front two-assets)
+    ≡ record { number = short_number (bytes "a"); place = 7 } ∷ record { number = short_number (bytes "b"); place = 43 } ∷ []
+unfolding fields fields_to nth composite size sizes placed flat_map same_bytes is_asset_parameter named_parameter named_assets number_from two-assets
 listed-assets = refl
 
 -- a body that debits and then sends, the send inside a let

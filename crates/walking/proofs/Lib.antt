@@ -1,9 +1,8 @@
-pub mod Assets
 pub mod Numbered
-pub mod Collecting
 pub mod Within
 pub mod Places
 pub mod Visits
+pub mod Assets
 pub mod Callers
 pub mod Calls
 pub mod Examples

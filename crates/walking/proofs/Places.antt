@@ -2,7 +2,6 @@
 use Rattle.std.proofs.Common.{ℕ, ◌+◌, ◌*◌, ◌%◌, ◌≤◌, ◌≡◌, refl, Bool, true, false, cond, List, [], ◌∷◌, ◌++◌, map, eqb, length}
 use mathlib.Core.List.{map-append}
 use lib.ListN.{length-map}
-use Rattle.laws.specs.Lists.{filter}
 use Rattle.laws.proofs.Lists.{filter-append}
 use Rattle.fields.specs.Field.{Placed, tag}
 use Rattle.walking.specs.Table.{of_tag, places_of}

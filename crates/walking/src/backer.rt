@@ -9,37 +9,28 @@ use fields::bytes::same_bytes;
 use fields::front::{front_tag, is_whole, length_of, part_of, text_of};
 use tags::{IDENTIFIER, MEMBER};
 
-// A field of the tag that was asked for, with the end of its content, or another.
-#[derive(Drop)]
-pub enum Node {
-    Found { end: usize },
-    Other,
-}
-
-// Whether a whole field of this tag stands at the front of s.
-fn node_at(s: &[u8], tag: u8) -> Node
+// Where the content of the field at the front of s ends, if it is a whole field of this tag.
+fn node_at(s: &[u8], tag: u8) -> Option<usize>
     ensures { result ≡ node_of s.now tag }
 {
     if is_whole(s) & (front_tag(s) == tag) {
-        return Node::Found {
-            end: 3 + length_of(s),
-        };
+        return Some(3 + length_of(s));
     }
-    Node::Other
+    None
 }
 
 // The name p where `p.amount` stands at the front of s. Anything else gives no backer and leaves at once.
 pub fn asset_amount_backer(s: &[u8]) -> &[u8]
     ensures { result.now ≡ asset_amount_backer (front s.now) }
 {
-    let Node::Found { end: _ } = node_at(s, MEMBER) else {
+    let Some(_) = node_at(s, MEMBER) else {
         return &s[..0];
     };
     if !same_bytes(text_of(part_of(s, 1)), b"amount") {
         return &s[..0];
     }
     let base = part_of(s, 0);
-    let Node::Found { end } = node_at(base, IDENTIFIER) else {
+    let Some(end) = node_at(base, IDENTIFIER) else {
         return &s[..0];
     };
     &base[3..end]

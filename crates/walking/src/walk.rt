@@ -1,103 +1,100 @@
-// SPDX-License-Identifier: Apache-2.0 OR MIT
 // The walk: the places of the expressions of one tag, in walk order, in a table that the caller lends. An expression
 // visits its list of parts, and the list, gone through by a loop, visits expressions: the stack grows with the nesting
 // of a file and not with the length of its lists.
+ghost use Rattle.std.specs.Prelude.{◌+◌, ◌*◌, ◌^◌, ◌<◌, ◌%◌, cond, eqb, [], ◌∷◌, length};
 ghost use mathlib.Core.List.{flat_map};
-ghost use Rattle.fields.specs.Field.{fields, front, placed};
+ghost use Rattle.fields.specs.Field.{fields, front, tag as tag_of, placed};
+ghost use Rattle.fields.specs.Row.{shown};
+ghost use Rattle.fields.specs.Table.{Listed};
+ghost use Rattle.fields.specs.Lists.{Lists};
 ghost use Rattle.walking.specs.Walking.{walk, walk_parts, stmt_exprs, body_exprs};
-ghost use Rattle.fields.specs.Table.{Listed, Room};
 ghost use Rattle.walking.specs.Table.{placed_at, places_of};
 
 use fields::bytes::skip;
-use fields::front::{after_front, is_whole, length_of, parts_of, tag_of};
-use fields::table::note;
+use fields::row::{Field, Fields, fields_at};
+use fields::table::{Table, empty_table};
 use tags::{is_expression, is_statement};
 
 // How many fields a file that passes question 1 has at most: 32,768 bytes by three, which a field takes at least. A table of so
 // many numbers has room for the places of all its calls, or conditions, or whatever else is listed of one entry.
 pub const MOST_FIELDS: usize = 10923;
 
-// Lists the expressions of the field at the front of s, which stands at base, from n of the table on. Most have no parts, and
-// then nothing is called. Two bytes hold every
-// place of a file that passes question 1; of a longer one they hold the place modulo 65,536, so that the walk asks nothing
-// of its caller.
+// Notes the place of a field that has the tag. Two bytes hold every place of a file that passes question 1; of a longer one they
+// hold the place modulo 65,536, so that the walk asks nothing of its caller.
+fn note_place(field: &Field, tag: u8, places: &mut Table<u16>)
+    requires { places.old.count + 1 < 2 ^ 64 }
+    ensures { Lists (cond (eqb (tag_of (front field.now.part.now)) tag) (field.now.place % 65536 ∷ []) []) places.old places.new }
+{
+    if field.tag() == tag {
+        places.note((field.place % 65536) as u16);
+    }
+}
+
+// Lists the expressions in a field, itself before its parts. Most have no parts, and then nothing is called.
 #[cycle(visit_expression_visit_parts)]
-fn visit_expression(s: &[u8], base: usize, tag: u8, table: &mut [u16], n: usize) -> usize
-    requires { Room s.now base n }
-    ensures { Listed (places_of tag (walk base (front s.now))) table.old n table.new result }
+fn visit_expression(field: Field, tag: u8, places: &mut Table<u16>)
+    requires { 3 * places.old.count + length field.part.now < 3 * 2 ^ 64 }
+    ensures { Lists (places_of tag (walk field.entry.place (front field.entry.part.now))) places.old places.new }
 {
-    let here = tag_of(s);
-    if !is_expression(here) {
-        return n;
+    if !is_expression(field.tag()) {
+        return;
     }
-    let m = note(here == tag, base % 65536, table, n);
-    let parts = parts_of(s);
-    if parts.len() == 0 {
-        return m;
+    note_place(&field, tag, places);
+    let parts = field.parts();
+    if !parts.rest.is_empty() {
+        visit_parts(parts, tag, places);
     }
-    visit_parts(parts, base + 3, tag, table, m)
 }
 
-// The same of every field of s.
+// The same of fields in a row.
 #[cycle(visit_expression_visit_parts)]
-fn visit_parts(s: &[u8], base: usize, tag: u8, table: &mut [u16], n: usize) -> usize
-    requires { Room s.now base n }
-    ensures { Listed (places_of tag (walk_parts base (fields s.now))) table.old n table.new result }
+fn visit_parts(parts: Fields, tag: u8, places: &mut Table<u16>)
+    requires { 3 * places.old.count + length parts.rest.now < 3 * 2 ^ 64 }
+    ensures { Lists (places_of tag (walk_parts parts.entry.place (fields parts.entry.rest.now))) places.old places.new }
 {
-    let mut t = s;
-    let mut at = base;
-    let mut m = n;
-    while is_whole(t) {
-        m = visit_expression(t, at, tag, table, m);
-        at += 3 + length_of(t);
-        let u = after_front(t);
-        t = u;
+    for part in parts {
+        visit_expression(part, tag, places);
     }
-    m
 }
 
-// The same of the statement at the front of s; nothing where no statement stands there.
-fn visit_statement(s: &[u8], base: usize, tag: u8, table: &mut [u16], n: usize) -> usize
-    requires { Room s.now base n }
-    ensures { Listed (places_of tag (stmt_exprs (record { place = base; this = front s.now }))) table.old n table.new result }
+// The same of a statement; nothing of any other field.
+fn visit_statement(field: Field, tag: u8, places: &mut Table<u16>)
+    requires { 3 * places.old.count + length field.part.now < 3 * 2 ^ 64 }
+    ensures { Lists (places_of tag (stmt_exprs (shown field.entry))) places.old places.new }
 {
-    if !is_statement(tag_of(s)) {
-        return n;
+    if is_statement(field.tag()) {
+        visit_parts(field.parts(), tag, places);
     }
-    visit_parts(parts_of(s), base + 3, tag, table, n)
 }
 
-// The same of the statements among the fields of s.
-fn visit_statements(s: &[u8], base: usize, tag: u8, table: &mut [u16], n: usize) -> usize
-    requires { Room s.now base n }
-    ensures { Listed (places_of tag (flat_map stmt_exprs (placed base (fields s.now)))) table.old n table.new result }
+// The same of the statements among fields in a row.
+fn visit_statements(parts: Fields, tag: u8, places: &mut Table<u16>)
+    requires { 3 * places.old.count + length parts.rest.now < 3 * 2 ^ 64 }
+    ensures { Lists (places_of tag (flat_map stmt_exprs (placed parts.entry.place (fields parts.entry.rest.now)))) places.old places.new }
 {
-    let mut t = s;
-    let mut at = base;
-    let mut m = n;
-    while is_whole(t) {
-        m = visit_statement(t, at, tag, table, m);
-        at += 3 + length_of(t);
-        let rest = after_front(t);
-        t = rest;
+    for part in parts {
+        visit_statement(part, tag, places);
     }
-    m
 }
 
-// Lists the places, in s, of the expressions of a tag in the one at the front of s, and answers how many there are.
-pub fn list_expression(s: &[u8], tag: u8, table: &mut [u16]) -> usize
-    ensures { Listed (places_of tag (walk 0 (front s.now))) table.old 0 table.new result }
+// Lists the places, in s, of the expressions of a tag in the one at the front of s.
+pub fn list_expression<'t>(s: &[u8], tag: u8, table: &'t mut [u16]) -> Table<'t, u16>
+    ensures { Listed (places_of tag (walk 0 (front s.now))) table.old 0 result.items.now result.count }
 {
-    visit_expression(s, 0, tag, table, 0)
+    let mut places = empty_table(table);
+    if let Some(field) = fields_at(s, 0).next() {
+        visit_expression(field, tag, &mut places);
+    }
+    places
 }
 
 // Lists the places, in the file, of the expressions of a tag in the body of the entry that stands at a place of it.
-pub fn list_body(file: &[u8], place: usize, tag: u8, table: &mut [u16]) -> usize
-    ensures { Listed (places_of tag (body_exprs (placed_at file.now place))) table.old 0 table.new result }
+pub fn list_body<'t>(file: &[u8], place: usize, tag: u8, table: &'t mut [u16]) -> Table<'t, u16>
+    ensures { Listed (places_of tag (body_exprs (placed_at file.now place))) table.old 0 result.items.now result.count }
 {
-    let entry = skip(file, place);
-    if !is_whole(entry) {
-        return 0;
+    let mut places = empty_table(table);
+    if let Some(entry) = fields_at(skip(file, place), place).next() {
+        visit_statements(entry.parts(), tag, &mut places);
     }
-    visit_statements(parts_of(entry), place + 3, tag, table, 0)
+    places
 }

@@ -1,8 +1,8 @@
--- The entries are selected by their tag.
+-- The entries are selected by their tags.
 use Rattle.model.specs.Model.{entries}
-use Rattle.model.proofs.Accessors.{shown-nth}
+use Rattle.model.proofs.Accessors.{found-nth}
 use Rattle.model.proofs.nth_entry.Goals as goal
 
 pub returns : goal.returns
 unfolding entries
-returns c = search shown-nth
+returns c = search found-nth

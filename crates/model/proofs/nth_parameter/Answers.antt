@@ -1,8 +1,8 @@
--- The parameters are the parts of an entry with their tag.
+-- The parameters are selected by their tags.
 use Rattle.model.specs.Model.{params}
-use Rattle.model.proofs.Accessors.{part-nth}
+use Rattle.model.proofs.Accessors.{this-nth}
 use Rattle.model.proofs.nth_parameter.Goals as goal
 
 pub returns : goal.returns
 unfolding params
-returns c = search part-nth
+returns c = search this-nth

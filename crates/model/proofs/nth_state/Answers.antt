@@ -1,8 +1,8 @@
--- The state fields are selected by their tag.
+-- The state fields are selected by their tags.
 use Rattle.model.specs.Model.{states}
-use Rattle.model.proofs.Accessors.{shown-nth}
+use Rattle.model.proofs.Accessors.{found-nth}
 use Rattle.model.proofs.nth_state.Goals as goal
 
 pub returns : goal.returns
 unfolding states
-returns c = search shown-nth
+returns c = search found-nth

@@ -1,8 +1,8 @@
--- The statements are the parts of an entry with their tags.
+-- The statements are selected by their tags.
 use Rattle.model.specs.Model.{body}
-use Rattle.model.proofs.Accessors.{part-nth}
+use Rattle.model.proofs.Accessors.{this-nth}
 use Rattle.model.proofs.nth_statement.Goals as goal
 
 pub returns : goal.returns
 unfolding body
-returns c = search part-nth
+returns c = search this-nth

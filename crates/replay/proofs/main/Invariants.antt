@@ -2,5 +2,5 @@
 use Rattle.std.proofs.Common.{◌≤◌}
 use Rattle.replay.proofs.main.Given as goal
 
-abbrev pub invariant-loop-record : goal.invariant-loop-record
-invariant-loop-record l = (l.differences ≤ l.«record») × (l.count ≤ l.«record»)
+abbrev pub invariant-loop-number : goal.invariant-loop-number
+invariant-loop-number l = (l.differences ≤ l.number) × (l.count ≤ l.number)

@@ -3,14 +3,14 @@ use Rattle.claim.proofs.Fitting.{answered-passes}
 use Rattle.contract.proofs.Each.{table-enough, refused-each}
 use Rattle.contract.proofs.records.each_record.Goals as goal
 
-pub returns-in-Refused : goal.returns-in-Refused
-returns-in-Refused c = search refused-each
+pub returns-in-Err : goal.returns-in-Err
+returns-in-Err c = search refused-each
 
-pub entry_records-requires-clause-passed : goal.entry_records-requires-clause-passed
-entry_records-requires-clause-passed c = search answered-passes
+pub record_with-requires-clause-passed : goal.record_with-requires-clause-passed
+record_with-requires-clause-passed c = search answered-passes
 
-pub entry_records-requires-2-clause-passed : goal.entry_records-requires-2-clause-passed
-entry_records-requires-2-clause-passed c = search answered-passes
+pub record_with-requires-2-clause-passed : goal.record_with-requires-2-clause-passed
+record_with-requires-2-clause-passed c = search answered-passes
 
-pub entry_records-requires-2-clause-scratch : goal.entry_records-requires-2-clause-scratch
-entry_records-requires-2-clause-scratch c = search table-enough
+pub record_with-requires-2-clause-scratch : goal.record_with-requires-2-clause-scratch
+record_with-requires-2-clause-scratch c = search table-enough

@@ -1,6 +1,6 @@
--- Two bytes, one behind the other.
-use Rattle.contract.proofs.Writing.{two-written}
+-- The last two bytes of the number.
+use Rattle.contract.proofs.Writing.{number-written}
 use Rattle.contract.proofs.records.write_number.Goals as goal
 
 pub returns : goal.returns
-returns c = search two-written
+returns c = search number-written

@@ -1,14 +1,10 @@
 -- Behind the numbers stand the covers, where there are some.
-use Rattle.std.proofs.Common.{rules}
 use Rattle.laws.proofs.Told.{told}
-use Rattle.contract.proofs.Writing.{covers-fit, head-alone, covers-behind}
+use Rattle.contract.proofs.Writing.{head-alone, covers-behind}
 use Rattle.contract.proofs.records.write_record.Goals as goal
 
-pub returns-then-numbers-ne0 : goal.returns-then-numbers-ne0
-returns-then-numbers-ne0 c = search (head-alone, told)
+pub returns-in-Accepted : goal.returns-in-Accepted
+returns-in-Accepted c = search (covers-behind, told)
 
-pub overflow_mul-numbers : goal.overflow_mul-numbers
-overflow_mul-numbers c = search (covers-fit, told, rules)
-
-pub returns : goal.returns
-returns c = search (covers-behind, told)
+pub returns-in_default : goal.returns-in_default
+returns-in_default c = head-alone _ _ _ _ c.write_numbers.ensures c.in_default.not-Accepted

@@ -1,30 +1,17 @@
 -- Whoever lists the asset parameters that are left has listed all.
-use Rattle.std.proofs.Common.{rules}
-use Rattle.laws.proofs.Told.{told}
-use Rattle.fields.proofs.Rows.{from_less}
-use Rattle.entries.proofs.Naming.{naming-first, naming-end, naming-place, naming-room, naming-on, naming-inside, at-fits, place-fits}
+use Rattle.std.proofs.Common.{◌∙◌}
+use Rattle.fields.proofs.Gathering.{gathering-on, gathering-done}
+use Rattle.entries.proofs.Naming.{parameters, parameters-listed}
 use Rattle.entries.proofs.calls.list_parameters.Goals as goal
 
-pub loop-row-init : goal.loop-row-init
-loop-row-init c = search naming-first
+pub loop-field-preserved : goal.loop-field-preserved
+loop-field-preserved c = (
+  c.list_parameter.ensures.same_reference ∙ c.loop-field.invariant.0,
+  gathering-on parameters _ _ _ _ c.loop-field.invariant.1 _ _ c.in-Some.ensures.steps _ c.list_parameter.ensures.lists,
+)
 
-pub overflow_add-at : goal.overflow_add-at
-overflow_add-at c = search (place-fits, rules)
-
-pub overflow_sub-at : goal.overflow_sub-at
-overflow_sub-at c = search naming-inside
-
-pub overflow_add-at-in-loop-row : goal.overflow_add-at-in-loop-row
-overflow_add-at-in-loop-row c = search (at-fits, rules)
-
-pub note-m-requires : goal.note-m-requires
-note-m-requires c = (search naming-place, search naming-room)
-
-pub loop-row-smaller : goal.loop-row-smaller
-loop-row-smaller c = search (from_less, told)
-
-pub loop-row-preserved : goal.loop-row-preserved
-loop-row-preserved c = search (naming-on, told)
-
-pub returns : goal.returns
-returns c = search (naming-end, told)
+pub returns-clause-lists : goal.returns-clause-lists
+returns-clause-lists c =
+    parameters-listed _ _ c.into_iter-field-iterator.ensures.into_iter_gives _ _ _ _ c.requires _ c.skip.ensures _ c.parts_of.ensures.shows
+    c.fields_at-field-items.ensures.rest c.fields_at-field-items.ensures.place c.parts_of.ensures.reads c.args.places.now c.loop-field.places
+    (gathering-done parameters _ _ _ _ c.loop-field.invariant.1 c.in-None.ensures.steps)

@@ -8,7 +8,7 @@ pub returns-then-file-gt32768 : goal.returns-then-file-gt32768
 returns-then-file-gt32768 c = search too_long
 
 pub reserve_token-requires-clause-funded : goal.reserve_token-requires-clause-funded
-reserve_token-requires-clause-funded c = (facts-none _ _ c.nothing_known-facts.ensures).funded
+reserve_token-requires-clause-funded c = (facts-none _ _ c.nothing_known-facts.ensures.listed c.nothing_known-facts.ensures.held).funded
 
 pub returns : goal.returns
 returns c = search (told_of, rules)

@@ -1,5 +1,5 @@
 -- What is left of the text, from the number so far, has the number of the whole text.
-use Rattle.std.proofs.Common.{ℕ, ◌+◌, ◌-◌, ◌*◌, ◌%◌, ◌≤◌, ◌<◌, ◌≡◌, refl, List, arith, mod-lt, length, get_or, drop, drop_of_length-le}
+use Rattle.std.proofs.Common.{ℕ, ◌+◌, ◌*◌, ◌%◌, ◌≤◌, ◌<◌, ◌≡◌, refl, List, arith, mod-lt, length, get_or, drop, drop_of_length-le}
 use Rattle.laws.proofs.Slices.{drop-step}
 use Rattle.fields.specs.Number.{number_from, text_number}
 use Rattle.fields.proofs.number.text_number.Given as goal

@@ -2,14 +2,13 @@
 use Rattle.fundings.proofs.Joins.{joining-none, joining-on, joining-done}
 use Rattle.fundings.proofs.ledger.list_calls.Goals as goal
 
-pub loop-i-init : goal.loop-i-init
-loop-i-init c = search joining-none
+pub loop-call-init : goal.loop-call-init
+loop-call-init c = search joining-none
 
-pub list_call-m-requires-clause-mapped : goal.list_call-m-requires-clause-mapped
-list_call-m-requires-clause-mapped c = c.loop-i.invariant.mapped
-
-pub loop-i-preserved : goal.loop-i-preserved
-loop-i-preserved c = search joining-on
+pub loop-call-preserved : goal.loop-call-preserved
+loop-call-preserved c =
+    joining-on c.args.file.now _ c.args.entry.named c.args.calls.now c.args.maps.now.items _ c.loop-call.maps.items c.loop-call.invariant
+    c.loop-call-test.true _ c.from.ensures c.list_call.new.maps.items c.in_ok-list_call.ensures
 
 pub returns : goal.returns
 returns c = search joining-done

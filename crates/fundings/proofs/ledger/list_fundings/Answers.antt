@@ -1,23 +1,23 @@
 -- The set that each map has so far, with what the entries ahead name that fund it, is the set of all.
-use Rattle.laws.proofs.Told.{told_is}
-use Rattle.fields.proofs.Rows.{from_less}
-use Rattle.fundings.proofs.Entries.{entries-all, entries-on, entries-done}
+use Rattle.fundings.proofs.Entries.{entries-all, entries-past, entries-standing, entries-on, entries-done}
 use Rattle.fundings.proofs.ledger.list_fundings.Goals as goal
 
-pub loop-t-init : goal.loop-t-init
-loop-t-init c = search entries-all
+pub loop-field-init : goal.loop-field-init
+loop-field-init c =
+    entries-all _ _ _ c.into_iter-field-iterator.ensures.into_iter_gives c.fields_at-field-items.ensures.rest c.fields_at-field-items.ensures.place
+    _ c.clear.ensures
 
-pub overflow_sub-file : goal.overflow_sub-file
-overflow_sub-file c = c.loop-t.invariant.within
+pub loop-field-preserved-then-tag-ne-ENTRY : goal.loop-field-preserved-then-tag-ne-ENTRY
+loop-field-preserved-then-tag-ne-ENTRY c =
+    entries-past _ _ _ c.loop-field.invariant _ _ c.in-Some.ensures.steps _ c.tag.ensures c.if-tag-ne-ENTRY.true
 
-pub list_entry-n-requires-clause-mapped : goal.list_entry-n-requires-clause-mapped
-list_entry-n-requires-clause-mapped c = c.loop-t.invariant.mapped
+pub list_entry-requires-clause-standing : goal.list_entry-requires-clause-standing
+list_entry-requires-clause-standing c = entries-standing _ _ _ c.loop-field.invariant _ _ c.in-Some.ensures.steps c.requires.short
 
-pub loop-t-smaller : goal.loop-t-smaller
-loop-t-smaller c = search (from_less, told_is)
-
-pub loop-t-preserved : goal.loop-t-preserved
-loop-t-preserved c = search (entries-on, told_is)
+pub loop-field-preserved : goal.loop-field-preserved
+loop-field-preserved c =
+    entries-on _ _ _ c.loop-field.invariant _ _ c.in-Some.ensures.steps _ c.tag.ensures c.if-tag-ne-ENTRY.false c.list_entry.new.maps.items
+    c.in_ok-list_entry.ensures
 
 pub returns : goal.returns
-returns c = search (entries-done, told_is)
+returns c = entries-done _ _ _ c.loop-field.invariant c.in-None.ensures.steps

@@ -1,20 +1,17 @@
 -- The scratch table has room for all calls of the entry.
-use Rattle.std.proofs.Common.{◌≡◌, ◌*◌, ◌≤◌, ℕ, List, length}
-use Rattle.fundings.proofs.Calls.{room-lent, calls-room, calls_count}
+use Rattle.std.proofs.Common.{rules}
+use Rattle.std.proofs.lemmas.Result.{on_ok_weaker}
+use Rattle.fundings.proofs.Calls.{room-lent}
 use Rattle.fundings.proofs.Joins.{joins-all, funder-known}
 use Rattle.fundings.proofs.ledger.list_many.Goals as goal
 
-still-room : (file scratch later : List ℕ) → length file ≤ 3 * length scratch → length later ≡ length scratch → length file ≤ 3 * length later
-still-room file scratch later h e = rw e h
-
-pub slice_bounds-list_calls-end : goal.slice_bounds-list_calls-end
-slice_bounds-list_calls-end c = search (calls-room, room-lent, still-room)
-
-pub slice_bounds-list_calls-end-2 : goal.slice_bounds-list_calls-end-2
-slice_bounds-list_calls-end-2 c = search (calls_count, room-lent, still-room)
-
-pub list_calls-requires-clause-entry : goal.list_calls-requires-clause-entry
-list_calls-requires-clause-entry c = search funder-known
+pub list_calls-requires : goal.list_calls-requires
+list_calls-requires c = search funder-known
 
 pub returns : goal.returns
-returns c = search (joins-all, room-lent, still-room)
+returns c =
+    on_ok_weaker c.list_calls.result
+    (joins-all c.args.file.now c.args.place c.requires.standing c.args.maps.now.items _ c.list_body-calls.result.items.now
+    c.list_body-calls.result.count c.list_body-calls.ensures (room-lent _ _ _ _ _ c.list_body-calls.ensures (search rules)) _ c.listed.ensures
+    _ c.tokens_number.ensures.reads c.list_calls.new.maps.items)
+    c.list_calls.ensures

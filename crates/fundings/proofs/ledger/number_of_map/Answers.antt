@@ -1,18 +1,14 @@
--- The third of the map's numbers is its set, and past the end stands none.
-use Rattle.std.proofs.Common.{ℕ, ◌+◌, ◌≡◌, ◌*◌, ◌<◌, ◌∙◌, ◌^◌, List, arith, rules, w64, Fits, get_or, length}
-use Rattle.fundings.specs.Fundings.{before_map, number_of_map}
-use Rattle.fundings.proofs.Maps.{before-inside, number-there}
+-- The first that is the map has its set.
+use Rattle.std.proofs.Common.{rules}
+use Rattle.std.proofs.lemmas.Iterator.{YieldsList-from_slice}
+use Rattle.std.proofs.lemmas.Iterator.Search.{find_from_yields_List}
+use Rattle.fundings.specs.Fundings.{is_map}
+use Rattle.fundings.proofs.Maps.{set-found}
 use Rattle.fundings.proofs.ledger.number_of_map.Goals as goal
 
-module _ (file m l : List ℕ) (at : ℕ) (e : at ≡ before_map file m l) where
-  fits : length l * 2 < 2 ^ 63 → Fits w64 (at + 2)
-  fits h = omega (arith, h, e, before-inside file m l)
-
-  read : (n : ℕ) → n ≡ get_or l (at + 2) 0 → n ≡ number_of_map file m l
-  read n f = f ∙ rw e (number-there file m l)
-
-pub overflow_add-find_map : goal.overflow_add-find_map
-overflow_add-find_map c = search (fits, rules)
-
 pub returns : goal.returns
-returns c = search read
+returns c =
+    set-found (λ x. x.now) c.args.file.now c.args.map.now c.args.maps.now c.find.result
+    (find_from_yields_List (is_map c.args.file.now c.args.map.now) c.find.new.self _ c.find.result c.find.ensures.ran
+    (YieldsList-from_slice c.args.maps.now (search rules)) (λ x b q k. search rules))
+    c.map_or.result c.map_or.ensures (λ x p. search rules)

@@ -1,20 +1,30 @@
--- Entry by entry, the set found so far and what those ahead name have the set of all; two that differ stay so.
-use Rattle.laws.proofs.Told.{told}
-use Rattle.fundings.proofs.Funders.{ledger-all, ledger-several, ledger-on, ledger-done}
+-- Field by field, the set found so far and what the entries ahead name have the set of all; two that differ stay so.
+use Rattle.fundings.proofs.Funders.{ledger-all, ledger-past, ledger-standing, ledger-several, ledger-on, ledger-done}
 use Rattle.fundings.proofs.Shown.{funding-small}
 use Rattle.fundings.proofs.token.ledger_funding_number.Goals as goal
 
-pub loop-t-init : goal.loop-t-init
-loop-t-init c = search ledger-all
+pub loop-field-init : goal.loop-field-init
+loop-field-init c =
+    ledger-all _ _ _ _ c.into_iter-field-iterator.ensures.into_iter_gives c.fields_at-field-items.ensures.rest c.fields_at-field-items.ensures.place
+
+pub loop-field-preserved-then-tag-ne-ENTRY : goal.loop-field-preserved-then-tag-ne-ENTRY
+loop-field-preserved-then-tag-ne-ENTRY c =
+    ledger-past _ _ _ _ c.loop-field.invariant _ _ c.in-Some.ensures.steps _ c.tag.ensures c.if-tag-ne-ENTRY.true
+
+pub joined_with-found-requires-clause-standing : goal.joined_with-found-requires-clause-standing
+joined_with-found-requires-clause-standing c = ledger-standing _ _ _ _ c.loop-field.invariant _ _ c.in-Some.ensures.steps c.requires
 
 pub returns-then-found-eq1-clause-reads : goal.returns-then-found-eq1-clause-reads
-returns-then-found-eq1-clause-reads c = search (ledger-several, told)
+returns-then-found-eq1-clause-reads c =
+    ledger-several _ _ _ _ c.loop-field.invariant _ _ c.in-Some.ensures.steps _ c.tag.ensures c.if-tag-ne-ENTRY.false _ c.joined_with-found.ensures c.if-found-eq1.true
 
-pub loop-t-preserved : goal.loop-t-preserved
-loop-t-preserved c = search (ledger-on, told)
+pub loop-field-preserved : goal.loop-field-preserved
+loop-field-preserved c =
+    ledger-on _ _ _ _ c.loop-field.invariant _ _ c.in-Some.ensures.steps _ c.tag.ensures c.if-tag-ne-ENTRY.false _ c.joined_with-found.ensures
 
 pub returns-clause-reads : goal.returns-clause-reads
-returns-clause-reads c = search (ledger-done, told)
+returns-clause-reads c = ledger-done _ _ _ _ c.loop-field.invariant c.in-None.ensures.steps
 
 pub returns-clause-small : goal.returns-clause-small
-returns-clause-small c = funding-small c.args.file.now c.args.map.now c.requires _ (search (ledger-done, told))
+returns-clause-small c =
+    funding-small c.args.file.now c.args.map.now c.requires _ (ledger-done _ _ _ _ c.loop-field.invariant c.in-None.ensures.steps)

@@ -1,10 +1,6 @@
--- Entry by entry, the set found so far and what those ahead name have the set of all.
-use Rattle.std.proofs.Common.{length}
+-- Field by field, the set found so far and what the entries ahead name have the set of all.
 use Rattle.fundings.proofs.Funders.{Ledger}
 use Rattle.fundings.proofs.token.ledger_funding_number.Given as goal
 
-abbrev pub invariant-loop-t : goal.invariant-loop-t
-invariant-loop-t l = Ledger l.file l.map l.found l.t
-
-abbrev pub decreases-loop-t : goal.decreases-loop-t
-decreases-loop-t l = length l.t
+abbrev pub invariant-loop-field : goal.invariant-loop-field
+invariant-loop-field l = Ledger l.file l.map l.found l.field-iterator

@@ -1,11 +1,11 @@
 -- What is left of the slots answers as the whole row does.
-use Rattle.std.proofs.Common.{◌≡◌, length}
+use Rattle.std.proofs.Common.{◌≡◌, length, map}
 use Rattle.grammar.specs.Grammar.{advance}
-use Rattle.grammar.specs.Slots.{slot_list}
+use Rattle.grammar.specs.Slots.{slot_number, slot_list}
 use Rattle.grammar.proofs.Slots.advance.Given as goal
 
-abbrev pub invariant-loop-left : goal.invariant-loop-left
-invariant-loop-left l = advance (slot_list l.left) l.tag ≡ advance (slot_list l.initial.left) l.tag
+abbrev pub invariant-loop-slot : goal.invariant-loop-slot
+invariant-loop-slot l = advance (map slot_number l.left) l.tag ≡ advance (slot_list l.self) l.tag
 
-abbrev pub decreases-loop-left : goal.decreases-loop-left
-decreases-loop-left l = length (slot_list l.left)
+abbrev pub decreases-loop-slot : goal.decreases-loop-slot
+decreases-loop-slot l = length l.left

@@ -1,15 +1,14 @@
--- What is left of the slots is complete exactly if the whole row is.
-use Rattle.grammar.proofs.Left.{fewer, incomplete, complete-on, complete-end}
+-- The test of each slot is that of its number.
+use Rattle.std.proofs.Common.{rules, sym, ◌∙◌}
+use Rattle.std.proofs.lemmas.Iterator.{YieldsList-from_slice}
+use Rattle.std.proofs.lemmas.Iterator.Search.{all_from_yields_List}
+use Rattle.std.proofs.lemmas.List.Folds.{list_all-map}
+use Rattle.grammar.specs.Grammar.{complete, may_stay_empty}
+use Rattle.grammar.specs.Slots.{slot_number}
 use Rattle.grammar.proofs.Slots.is_complete.Goals as goal
 
-pub returns-then-slot-lt16 : goal.returns-then-slot-lt16
-returns-then-slot-lt16 c = search incomplete
-
-pub loop-left-smaller : goal.loop-left-smaller
-loop-left-smaller c = search fewer
-
-pub loop-left-preserved : goal.loop-left-preserved
-loop-left-preserved c = search complete-on
-
 pub returns : goal.returns
-returns c = search complete-end
+unfolding complete
+returns c =
+    all_from_yields_List (λ s. may_stay_empty (slot_number s)) c.all.new.self _ c.all.result c.all.ensures.ran (YieldsList-from_slice c.args.self.left.now (cc)) (λ x b q k. search rules)
+    ∙ sym (list_all-map may_stay_empty slot_number c.args.self.left.now)

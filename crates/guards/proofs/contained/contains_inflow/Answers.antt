@@ -1,6 +1,6 @@
 -- Only a member can be `p.amount`, so those in the lent table, which has room for all, decide.
-use Rattle.walking.proofs.Collecting.{assets-listed}
-use Rattle.guards.proofs.Members.{nameless, members-room, members-count, members-read, by_members}
+use Rattle.walking.proofs.Assets.{assets-listed}
+use Rattle.guards.proofs.Members.{nameless, members-read, by_members}
 use Rattle.guards.proofs.contained.contains_inflow.Goals as goal
 
 pub has_listed_asset-requires : goal.has_listed_asset-requires
@@ -8,12 +8,6 @@ has_listed_asset-requires c = search assets-listed
 
 pub returns-then-has_listed_asset : goal.returns-then-has_listed_asset
 returns-then-has_listed_asset c = search nameless
-
-pub slice_bounds-has_inflow-end-2 : goal.slice_bounds-has_inflow-end-2
-slice_bounds-has_inflow-end-2 c = search members-room
-
-pub slice_bounds-has_inflow-end-3 : goal.slice_bounds-has_inflow-end-3
-slice_bounds-has_inflow-end-3 c = search members-count
 
 pub has_inflow-requires-clause-assets : goal.has_inflow-requires-clause-assets
 has_inflow-requires-clause-assets c = search assets-listed

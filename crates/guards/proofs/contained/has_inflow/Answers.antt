@@ -1,17 +1,14 @@
--- The table has all members of the amount, and none that was passed is `p.amount`.
-use Rattle.fields.proofs.AtPlaces.{field_found, field-on}
-use Rattle.laws.proofs.Seeking.{seeking-none}
+-- The table has all members of the amount, and one of them decides where one is `p.amount`.
+use Rattle.std.proofs.Common.{rules, drop, ◌∙◌}
+use Rattle.std.proofs.lemmas.Iterator.{YieldsList-from_slice}
+use Rattle.std.proofs.lemmas.Iterator.Search.{any_from_yields_List}
+use Rattle.fields.specs.Field.{front}
+use Rattle.tokens.specs.Tokens.{is_inflow}
 use Rattle.guards.proofs.Members.{members-any}
 use Rattle.guards.proofs.contained.has_inflow.Goals as goal
 
-pub loop-i-init : goal.loop-i-init
-loop-i-init c = search members-any
-
-pub returns-then-is_listed_inflow : goal.returns-then-is_listed_inflow
-returns-then-is_listed_inflow c = search field_found
-
-pub loop-i-preserved : goal.loop-i-preserved
-loop-i-preserved c = search field-on
-
 pub returns : goal.returns
-returns c = search seeking-none
+returns c =
+    any_from_yields_List (λ n. is_inflow (front c.args.entry.now) (front (drop n c.args.amount.now))) c.any.new.self _ c.any.result c.any.ensures.ran
+    (YieldsList-from_slice c.args.members.now (search rules)) (λ x b q k. search rules)
+    ∙ members-any (front c.args.entry.now) c.args.amount.now c.args.members.now c.requires.members

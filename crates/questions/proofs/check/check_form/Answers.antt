@@ -4,17 +4,16 @@ use borrow.Author.Tests.{lt-leb}
 use Rattle.fields.specs.Field.{fields}
 use Rattle.grammar.specs.Grammar.{slots_of}
 use Rattle.questions.specs.Questions.{ask_fields, ask_form}
-use Rattle.questions.specs.Answers.{asked}
-use Rattle.questions.specs.declared.check.Answer.{Answer}
-use Rattle.questions.specs.declared.check.Answer.TheVariants as answer
+use Rattle.questions.specs.Answers.{Answered, refused, asked}
+use Rattle.questions.specs.declared.question.Question.TheVariants as question
 use Rattle.questions.proofs.check.check_form.Goals as goal
 
 module _ (file : List ℕ) where
-  too_long : 32768 < length file → asked (answer.Refused 1 0) ≡ ask_form file
+  too_long : 32768 < length file → asked (refused question.FileLength 0) ≡ ask_form file
   unfolding ask_form
   too_long h = rw (lt-leb (length file) 32768 h)
 
-  by-fields : length file ≤ 32768 → (r : Answer) → asked r ≡ ask_fields (slots_of 0) 0 1 0 (fields file) → asked r ≡ ask_form file
+  by-fields : length file ≤ 32768 → (r : Answered) → asked r ≡ ask_fields (slots_of 0) 0 1 0 (fields file) → asked r ≡ ask_form file
   unfolding ask_form
   by-fields h r e = rw (le-leb (length file) 32768 h) e
 

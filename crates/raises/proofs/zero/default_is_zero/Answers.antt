@@ -1,21 +1,19 @@
--- All state fields that were passed over pass, so those ahead decide.
-use Rattle.laws.proofs.Told.{told_is}
-use Rattle.fields.proofs.Rows.{from_less}
-use Rattle.raises.proofs.Passing.{passing-end, passing-fails, passing-on}
+-- The fields of that tag are asked one by one.
+use Rattle.std.proofs.Common.{rules, tests, ◌∙◌}
+use Rattle.std.proofs.lemmas.Iterator.Search.{all_from_yields_List}
+use Rattle.std.proofs.lemmas.Iterator.Consumers.{YieldsList-from_filter, YieldsList-at}
+use Rattle.tags.specs.Tag.{State, between}
+use Rattle.tags.proofs.Ranges.{between-one}
+use Rattle.fields.specs.Field.{fields_from, tag}
+use Rattle.fields.proofs.InARow.{along-row}
+use Rattle.raises.specs.Raising.{default_passes}
 use Rattle.raises.proofs.Zeros.{defaults-all}
 use Rattle.raises.proofs.zero.default_is_zero.Goals as goal
 
-pub loop-t-init : goal.loop-t-init
-loop-t-init c = search defaults-all
-
-pub returns-then-not-default_passes : goal.returns-then-not-default_passes
-returns-then-not-default_passes c = search (passing-fails, told_is)
-
-pub loop-t-smaller : goal.loop-t-smaller
-loop-t-smaller c = search (from_less, told_is)
-
-pub loop-t-preserved : goal.loop-t-preserved
-loop-t-preserved c = search (passing-on, told_is)
-
 pub returns : goal.returns
-returns c = search (passing-end, told_is)
+unfolding fields_from
+returns c =
+    all_from_yields_List (default_passes c.args.name.now) _ _ _ c.all.ensures.ran
+    (YieldsList-from_filter _ (λ f. between State State (tag f)) (YieldsList-at c.filter.ensures.source (along-row _)) c.filter.ensures.closure (λ x b q k. search (rules, tests, between-one)))
+    (λ x b q k. search (rules, tests))
+    ∙ defaults-all _ _ _ c.fields_at.ensures.rest

@@ -1,20 +1,25 @@
 -- The number found so far and those of the guards ahead have the only one; a second leaves none.
-use Rattle.laws.proofs.Told.{told_is}
-use Rattle.fields.proofs.Rows.{from_less}
-use Rattle.reserve_tokens.proofs.Guarding.{guarding-all, guarding-end, guarding-second, guarding-on}
+use Rattle.reserve_tokens.proofs.Guarding.{guarding-all, guarding-past, guarding-second, guarding-on, guarding-end}
 use Rattle.reserve_tokens.proofs.guard.only_guard_number.Goals as goal
 
-pub loop-parts-init : goal.loop-parts-init
-loop-parts-init c = search guarding-all
+pub loop-part-init : goal.loop-part-init
+loop-part-init c =
+    guarding-all _ _ _ c.skip.ensures _ c.parts_of.ensures.reads _ _ c.into_iter-part-iterator.ensures.into_iter_gives c.fields_at-part-items.ensures.rest
+    c.fields_at-part-items.ensures.place
+
+pub loop-part-preserved-then-tag-ne-GUARD : goal.loop-part-preserved-then-tag-ne-GUARD
+loop-part-preserved-then-tag-ne-GUARD c =
+    guarding-past _ _ _ _ c.loop-part.invariant _ _ c.in-Some.ensures.steps _ c.tag.ensures c.if-tag-ne-GUARD.true
 
 pub returns-then-found-number : goal.returns-then-found-number
-returns-then-found-number c = search (guarding-second, told_is)
+returns-then-found-number c =
+    guarding-second _ _ _ _ c.loop-part.invariant _ _ c.in-Some.ensures.steps _ c.tag.ensures c.if-tag-ne-GUARD.false _ c.guard_number-number.ensures
+    c.if-found-number.true
 
-pub loop-parts-smaller : goal.loop-parts-smaller
-loop-parts-smaller c = search (from_less, told_is)
-
-pub loop-parts-preserved : goal.loop-parts-preserved
-loop-parts-preserved c = search (guarding-on, told_is)
+pub loop-part-preserved : goal.loop-part-preserved
+loop-part-preserved c =
+    guarding-on _ _ _ _ c.loop-part.invariant _ _ c.in-Some.ensures.steps _ c.tag.ensures c.if-tag-ne-GUARD.false _ c.guard_number-number.ensures
+    c.if-found-number.false _ c.join-found.ensures
 
 pub returns : goal.returns
-returns c = search (guarding-end, told_is)
+returns c = guarding-end _ _ _ _ c.loop-part.invariant c.in-None.ensures.steps

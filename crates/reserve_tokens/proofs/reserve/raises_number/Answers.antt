@@ -1,23 +1,37 @@
--- Entry by entry, the number agreed on so far and those ahead agree on that of all; one that bars the field leaves none.
-use Rattle.laws.proofs.Told.{told_is}
-use Rattle.fields.proofs.Rows.{from_less}
-use Rattle.reserve_tokens.proofs.Reserving.{within-all, ahead-all, entry_here, entry-barred, within-on, ahead-on, ahead-end}
+-- Field by field, the number agreed on so far and those of the entries ahead agree on that of all; one that bars the field leaves none.
+use Rattle.std.proofs.Common.{arith}
+use Rattle.fields.proofs.EndOf.{end-all, end-inside, end-behind}
+use Rattle.reserve_tokens.proofs.Reserving.{ahead-all, ahead-past, ahead-on, entry-barred, ahead-end}
 use Rattle.reserve_tokens.proofs.reserve.raises_number.Goals as goal
 
-pub loop-t-init : goal.loop-t-init
-loop-t-init c = search (within-all, ahead-all)
+pub loop-field-init : goal.loop-field-init
+loop-field-init c = (
+  end-all _ _ _ c.into_iter-field-iterator.ensures.into_iter_gives c.fields_at-field-items.ensures.rest c.fields_at-field-items.ensures.place,
+  ahead-all _ _ _ _ c.into_iter-field-iterator.ensures.into_iter_gives c.fields_at-field-items.ensures.rest c.fields_at-field-items.ensures.place,
+)
 
-pub after_entry-next-requires-clause-standing : goal.after_entry-next-requires-clause-standing
-after_entry-next-requires-clause-standing c = search entry_here
+pub loop-field-preserved-then-tag-ne-ENTRY : goal.loop-field-preserved-then-tag-ne-ENTRY
+loop-field-preserved-then-tag-ne-ENTRY c = (
+  end-behind _ _ c.loop-field.invariant.0 _ _ c.in-Some.ensures.steps,
+  ahead-past _ _ _ _ c.loop-field.invariant.1 c.loop-field.invariant.0 _ _ c.in-Some.ensures.steps _ c.tag.ensures c.if-tag-ne-ENTRY.true,
+)
 
-pub returns-then-next-eq0 : goal.returns-then-next-eq0
-returns-then-next-eq0 c = search (entry-barred, told_is)
+pub after_entry-agreed-requires-clause-standing : goal.after_entry-agreed-requires-clause-standing
+after_entry-agreed-requires-clause-standing c =
+    let inside = end-inside _ _ c.loop-field.invariant.0 _ _ c.in-Some.ensures.steps in
+    record { short = c.requires.short; within = inside; few = omega arith }
 
-pub loop-t-smaller : goal.loop-t-smaller
-loop-t-smaller c = search (from_less, told_is)
+pub returns-then-agreed-eq0 : goal.returns-then-agreed-eq0
+returns-then-agreed-eq0 c =
+    entry-barred _ _ _ _ c.loop-field.invariant.1 c.loop-field.invariant.0 _ _ c.in-Some.ensures.steps _ c.tag.ensures c.if-tag-ne-ENTRY.false
+    _ c.after_entry-agreed.ensures c.if-agreed-eq0.true
 
-pub loop-t-preserved : goal.loop-t-preserved
-loop-t-preserved c = search (within-on, ahead-on, told_is)
+pub loop-field-preserved : goal.loop-field-preserved
+loop-field-preserved c = (
+  end-behind _ _ c.loop-field.invariant.0 _ _ c.in-Some.ensures.steps,
+  ahead-on _ _ _ _ c.loop-field.invariant.1 c.loop-field.invariant.0 _ _ c.in-Some.ensures.steps _ c.tag.ensures c.if-tag-ne-ENTRY.false
+      _ c.after_entry-agreed.ensures,
+)
 
 pub returns : goal.returns
-returns c = search (ahead-end, told_is)
+returns c = ahead-end _ _ _ _ c.loop-field.invariant.1 c.in-None.ensures.steps

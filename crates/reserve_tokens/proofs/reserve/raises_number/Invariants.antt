@@ -1,10 +1,7 @@
--- Entry by entry, the number agreed on so far and those ahead agree on that of all; one that bars the field leaves none.
-use Rattle.std.proofs.Common.{length}
-use Rattle.reserve_tokens.proofs.Reserving.{Ahead, Within}
+-- Field by field, the number agreed on so far and those of the entries ahead agree on that of all.
+use Rattle.fields.proofs.EndOf.{EndOf}
+use Rattle.reserve_tokens.proofs.Reserving.{Ahead}
 use Rattle.reserve_tokens.proofs.reserve.raises_number.Given as goal
 
-abbrev pub invariant-loop-t : goal.invariant-loop-t
-invariant-loop-t l = Within l.file l.initial.scratch l.scratch l.t × Ahead l.file l.name l.t l.agreed
-
-abbrev pub decreases-loop-t : goal.decreases-loop-t
-decreases-loop-t l = length l.t
+abbrev pub invariant-loop-field : goal.invariant-loop-field
+invariant-loop-field l = EndOf l.file l.field-iterator × Ahead l.file l.name l.agreed l.field-iterator

@@ -1,7 +1,6 @@
 -- Guard by guard its number is written behind the others.
 use Rattle.std.proofs.Common.{arith}
-use Rattle.laws.proofs.Told.{told_is}
-use Rattle.reserves.proofs.Holders.{listing-none, listing-on}
+use Rattle.reserves.proofs.Holders.{listing-none, listing-on, listing-end}
 use Rattle.reserves.proofs.ahead.list_ahead.Goals as goal
 
 pub loop-n-init : goal.loop-n-init
@@ -9,6 +8,8 @@ loop-n-init c = listing-none _ _ _ _ _ c.requires.unused
 
 pub loop-n-preserved : goal.loop-n-preserved
 loop-n-preserved c =
-    listing-on _ _ _ _ _ _ _ _ c.loop-n.invariant (omega (arith, c.loop-n-test.true, c.requires.room, c.loop-n.invariant.wide)) (search told_is) _
-    c.part_of.ensures.reads _ c.guarded_field-name.ensures _ c.lowered_number.ensures.number _ c.after_front.ensures _ c.first_guard-u.ensures.found
-    c.first_guard-u.ensures.within
+    listing-on _ _ _ _ _ _ _ _ (rw (c.in-Some.is) at c.loop-n.invariant) (omega (arith, c.requires.room, c.loop-n.invariant.wide)) _ c.part_of.ensures.reads _ c.guarded_field-name.ensures _
+    c.lowered_number.ensures.number _ c.after_front.ensures _ c.first_guard-ahead.ensures.found c.first_guard-ahead.ensures.within
+
+pub returns : goal.returns
+returns c = listing-end _ _ _ _ _ _ _ _ c.loop-n.invariant (omega arith)

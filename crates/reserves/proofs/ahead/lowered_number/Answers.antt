@@ -1,13 +1,14 @@
 -- A field that nothing lowers has no number here.
 use Rattle.std.proofs.Common.{ℕ, ◌≡◌, true, false, List}
 use Rattle.fields.specs.Field.{fields}
+use Rattle.fields.specs.declared.named.Named.{Named}
 use Rattle.guards.specs.Lowerings.{lowered_in}
 use Rattle.laws.proofs.Told.{told_is}
 use Rattle.reserves.specs.States.{state_number}
 use Rattle.reserves.specs.Covers.{lowered_number}
 use Rattle.reserves.proofs.ahead.lowered_number.Goals as goal
 
-module _ (file l r : List ℕ) where
+module _ (file : List ℕ) (l : List Named) (r : List ℕ) where
   not-lowered : lowered_in file r l ≡ false → 0 ≡ lowered_number file l r
   unfolding lowered_number
   not-lowered h = rw h

@@ -1,26 +1,27 @@
 -- The fields of the guards that were passed do not cover, so those that are left decide.
-use Rattle.std.proofs.Common.{ℕ, ◌≤◌, ◌<◌, ◌≡◌, false, List, length}
-use Rattle.std.proofs.Common.{None}
-use Rattle.laws.specs.Lists.{find}
-use Rattle.fields.specs.Field.{Field, whole, front}
+use Rattle.std.proofs.Common.{ℕ, ◌≤◌, ◌<◌, ◌≡◌, List, Option, Some, None}
+use Rattle.fields.specs.Field.{Field, front}
+use Rattle.fields.specs.declared.field.Field.{Field as Found}
+use Rattle.fields.specs.declared.named.Named.{Named}
+use Rattle.fundings.specs.declared.facts.Facts.{Facts}
 use Rattle.guards.specs.Bounding.{bounding_from}
 use Rattle.reserves.specs.Holding.{Known}
-use Rattle.reserves.specs.Covers.{index_in, first_covering}
+use Rattle.reserves.specs.Covers.{index_in, first_covering, bytes_left}
 use Rattle.reserves.proofs.covering.first_covering.Given as goal
 
-pub record Trying (file token l : List ℕ) (amount : Field) (guards facts scratch t : List ℕ) (most : ℕ) : Type 0 where
+pub record Trying (file token : List ℕ) (l : List Named) (amount : Field) (guard : Found) (facts : Facts) (scratch : List ℕ) (ahead : Option Found) (most : ℕ) : Type 0 where
   pub known : Known file facts scratch
   pub some : 0 < most
   pub few : most ≤ 64
-  pub left : first_covering file token l (bounding_from amount t) ≡ first_covering file token l (bounding_from amount guards)
+  pub left : first_covering file token l (bounding_from amount ahead) ≡ first_covering file token l (bounding_from amount (Some guard))
 
-pub none-left : {file token l : List ℕ} {amount : Field} {guards facts scratch t : List ℕ} {most : ℕ} → Trying file token l amount guards facts scratch t most →
-    whole t ≡ false → None ≡ first_covering file token l (bounding_from amount guards)
+pub none-left : {file token : List ℕ} {l : List Named} {amount : Field} {guard : Found} {facts : Facts} {scratch : List ℕ} {ahead : Option Found} {most : ℕ} →
+    Trying file token l amount guard facts scratch ahead most → ahead ≡ None → None ≡ first_covering file token l (bounding_from amount (Some guard))
 unfolding first_covering index_in
-none-left v w = rw w at v.left
+none-left v e = rw e at v.left
 
-abbrev pub invariant-loop-t : goal.invariant-loop-t
-invariant-loop-t l = Trying l.file l.token l.lowerings (front l.amount) l.guards l.facts l.scratch l.t l.most
+abbrev pub invariant-loop-ahead : goal.invariant-loop-ahead
+invariant-loop-ahead l = Trying l.file l.token l.lowerings (front l.amount) l.fn.guard l.facts l.scratch l.ahead l.most
 
-abbrev pub decreases-loop-t : goal.decreases-loop-t
-decreases-loop-t l = length l.t
+abbrev pub decreases-loop-ahead : goal.decreases-loop-ahead
+decreases-loop-ahead l = bytes_left l.ahead

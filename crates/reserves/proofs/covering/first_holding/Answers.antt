@@ -10,8 +10,8 @@ overflow_sub-result c = held-there _ _ _ (sym c.is_held.ensures.held ∙ c.if-is
 pub returns-then-is_held-clause-found : goal.returns-then-is_held-clause-found
 returns-then-is_held-clause-found c = search (holding-found, told_is)
 
-pub loop-i-preserved : goal.loop-i-preserved
-loop-i-preserved c = search (holding-on, told_is)
+pub loop-listed-preserved : goal.loop-listed-preserved
+loop-listed-preserved c = search (holding-on, told_is)
 
 pub returns-clause-found : goal.returns-clause-found
 returns-clause-found c = search holding-end

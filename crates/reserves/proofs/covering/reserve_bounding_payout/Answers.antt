@@ -4,11 +4,12 @@ use Rattle.std.proofs.Common.{ℕ, ◌≤◌, ◌≡◌, refl, sym, ◌∙◌, B
 use Rattle.std.proofs.Common.{Option, None}
 use borrow.Author.Tests.{not-true, not-false}
 use Rattle.laws.specs.Texts.{known}
-use Rattle.fields.specs.Field.{fields, whole, front, parts}
+use Rattle.fields.specs.Field.{Field, fields, front, parts}
+use Rattle.fields.proofs.Places.{is-zero}
 use Rattle.walking.specs.Table.{placed_at}
 use Rattle.guards.specs.Guards.{contains_inflow}
 use Rattle.guards.specs.Asked.{asked_token, asked_amount}
-use Rattle.guards.specs.Bounding.{bounding, bounding_from}
+use Rattle.guards.specs.Bounding.{bounding}
 use Rattle.guards.specs.Lowerings.{lowering_numbers}
 use Rattle.reserves.specs.Covers.{asked_reserve, first_covering}
 use Rattle.reserves.proofs.Covered.{unknown-token, no-guard, none-contained, all-contained}
@@ -21,12 +22,12 @@ module _ (file : List ℕ) (place : ℕ) (asked : List ℕ) (k : ℕ) where
   no-token (x ∷ t) e z = cc
 
   module _ (x : List ℕ) (e : x ≡ drop place file) (p : List ℕ) (f : fields p ≡ parts (front x)) (a : List ℕ) (g : front a ≡ asked_amount file asked k)
-      (gs : List ℕ) (h : bounding (front a) (fields p) ≡ bounding_from (front a) gs) where
-    all-bounding : bounding_from (front a) gs ≡ bounding (asked_amount file asked k) (parts (front (drop place file)))
+      (gs : List Field) (h : bounding (front a) (fields p) ≡ gs) where
+    all-bounding : gs ≡ bounding (asked_amount file asked k) (parts (front (drop place file)))
     all-bounding = rw (← e, ← f, ← g) (sym h)
 
-    none-bounds : (w : Bool) → w ≡ whole gs → not w ≡ true → None ≡ asked_reserve file place asked k
-    none-bounds w i o = no-guard file place asked k (sym all-bounding ∙ rw (← i, not-true w o))
+    none-bounds : gs ≡ [] → None ≡ asked_reserve file place asked k
+    none-bounds o = no-guard file place asked k (sym all-bounding ∙ o)
 
     module _ (b : Bool) (i : b ≡ contains_inflow (front x) (front a)) where
       inflow : b ≡ contains_inflow (front (drop place file)) (asked_amount file asked k)
@@ -36,17 +37,17 @@ module _ (file : List ℕ) (place : ℕ) (asked : List ℕ) (k : ℕ) where
       not-contained o = none-contained file place asked k (sym inflow ∙ not-true b o)
 
       by_guards : not b ≡ false → length file ≤ 32768 → (t : List ℕ) → t ≡ asked_token file asked k → (r : Option ℕ) →
-          r ≡ first_covering file t (lowering_numbers (front a) (placed_at file place)) (bounding_from (front a) gs) → r ≡ asked_reserve file place asked k
+          r ≡ first_covering file t (lowering_numbers (front a) (placed_at file place)) gs → r ≡ asked_reserve file place asked k
       by_guards o small t j r q = q ∙ rw (all-bounding, j, g) (all-contained file place asked k small (sym inflow ∙ not-false b o))
 
-pub returns-then-token-eq0-clause-found : goal.returns-then-token-eq0-clause-found
-returns-then-token-eq0-clause-found c = search no-token
+pub returns-then-is_empty-clause-found : goal.returns-then-is_empty-clause-found
+returns-then-is_empty-clause-found c = search (no-token, is-zero)
 
-pub returns-then-not-is_whole-clause-found : goal.returns-then-not-is_whole-clause-found
-returns-then-not-is_whole-clause-found c = search none-bounds
+pub returns-in_default-clause-found : goal.returns-in_default-clause-found
+returns-in_default-clause-found c = search (none-bounds, c.in_default.ensures.found)
 
 pub returns-then-not-contains_inflow-clause-found : goal.returns-then-not-contains_inflow-clause-found
-returns-then-not-contains_inflow-clause-found c = search not-contained
+returns-then-not-contains_inflow-clause-found c = search (not-contained, c.in-Some.ensures.found)
 
 pub returns-clause-found : goal.returns-clause-found
-returns-clause-found c = search by_guards
+returns-clause-found c = search (by_guards, c.in-Some.ensures.found)

@@ -2,5 +2,5 @@
 use Rattle.reserves.proofs.Remembering.{remembered-number}
 use Rattle.reserves.proofs.holding.held_number.Goals as goal
 
-pub returns-then-number-ne-NOT_YET-clause-number : goal.returns-then-number-ne-NOT_YET-clause-number
-returns-then-number-ne-NOT_YET-clause-number c = search remembered-number
+pub returns-in-Some-clause-number : goal.returns-in-Some-clause-number
+returns-in-Some-clause-number c = search remembered-number

@@ -1,27 +1,41 @@
--- Those that were passed have another name, and so are counted.
-use Rattle.std.proofs.Common.{rules}
-use Rattle.laws.proofs.Told.{told}
-use Rattle.fields.proofs.Rows.{from_less}
-use Rattle.reserves.proofs.state.state_number.Invariants.{none_passed, none_left, within, found, fits, one_more}
+-- The first field of the row that has the name is counted among those of its tag.
+use Rattle.std.proofs.Common.{◌≡◌, filter, eqb, arith, rules, inl}
+use Rattle.std.proofs.lemmas.Iterator.Search.{position_from_yields_List}
+use Rattle.std.proofs.lemmas.Iterator.Consumers.{YieldsList-from_filter, YieldsList-at}
+use Rattle.laws.specs.Texts.{same_bytes}
+use Rattle.tags.specs.Tag.{State}
+use Rattle.fields.specs.Field.{fields, row, tag}
+use Rattle.fields.proofs.InARow.{along-row}
+use Rattle.model.specs.Model.{name_of}
+use Rattle.reserves.proofs.Placing.{first, few-left, number-none, number-found, number-within}
 use Rattle.reserves.proofs.state.state_number.Goals as goal
 
-pub loop-t-init : goal.loop-t-init
-loop-t-init c = search none_passed
+pub position-found-requires-clause-fits : goal.position-found-requires-clause-fits
+position-found-requires-clause-fits c = inl (omega (arith, few-left c.filter.result.iter))
 
-pub returns-then-is_named-clause-counted : goal.returns-then-is_named-clause-counted
-returns-then-is_named-clause-counted c = search found
+-- what the chain finds
+asked : (c : goal.In-Some) → c.position-found.result
+    ≡ first name_of (same_bytes c.args.name.now) (filter (λ f. eqb (tag f) State) (row (fields c.fields_at.result.rest.now)))
+asked c =
+    position_from_yields_List (λ f. same_bytes c.args.name.now (name_of f)) c.position-found.new.self _ c.position-found.result c.position-found.ensures.ran
+    (YieldsList-from_filter _ (λ f. eqb (tag f) State) (YieldsList-at c.filter.ensures.source (along-row _)) c.filter.ensures.closure (λ x b q k. search rules))
+    (λ x b q k. search rules)
 
-pub returns-then-is_named-clause-within : goal.returns-then-is_named-clause-within
-returns-then-is_named-clause-within c = search (within, told)
+pub overflow_add-result : goal.overflow_add-result
+overflow_add-result c =
+    let w = number-within c.args.file.now c.args.name.now _ c.fields_at.ensures.rest _ (asked c) _ c.in-Some.is in
+    omega arith
 
-pub overflow_add-n : goal.overflow_add-n
-overflow_add-n c = search (fits, rules)
+pub returns-in-Some-clause-counted : goal.returns-in-Some-clause-counted
+returns-in-Some-clause-counted c = number-found c.args.file.now c.args.name.now _ c.fields_at.ensures.rest _ (asked c) _ c.in-Some.is
 
-pub loop-t-smaller : goal.loop-t-smaller
-loop-t-smaller c = search (from_less, told)
+pub returns-in-Some-clause-within : goal.returns-in-Some-clause-within
+returns-in-Some-clause-within c = number-within c.args.file.now c.args.name.now _ c.fields_at.ensures.rest _ (asked c) _ c.in-Some.is
 
-pub loop-t-preserved : goal.loop-t-preserved
-loop-t-preserved c = search one_more
-
-pub returns-clause-counted : goal.returns-clause-counted
-returns-clause-counted c = search (none_left, told)
+pub returns-in-None-clause-counted : goal.returns-in-None-clause-counted
+returns-in-None-clause-counted c =
+    number-none c.args.file.now c.args.name.now _ c.fields_at.ensures.rest _
+    (position_from_yields_List (λ f. same_bytes c.args.name.now (name_of f)) c.position-found.new.self _ c.position-found.result c.position-found.ensures.ran
+    (YieldsList-from_filter _ (λ f. eqb (tag f) State) (YieldsList-at c.filter.ensures.source (along-row _)) c.filter.ensures.closure (λ x b q k. search rules))
+    (λ x b q k. search rules))
+    c.in-None.is

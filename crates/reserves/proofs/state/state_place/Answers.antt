@@ -1,9 +1,12 @@
--- From its place on the file is what is left from the n-th state field on.
-use Rattle.reserves.proofs.Placing.{place-within, place-named}
+-- The n-th state field stands at its place in the file.
+use Rattle.reserves.proofs.Placing.{place-named, place-within, none-named}
 use Rattle.reserves.proofs.state.state_place.Goals as goal
 
-pub overflow_sub-result : goal.overflow_sub-result
-overflow_sub-result c = search place-within
+pub returns-in-Some-clause-named : goal.returns-in-Some-clause-named
+returns-in-Some-clause-named c = search place-named
 
-pub returns-clause-named : goal.returns-clause-named
-returns-clause-named c = search place-named
+pub returns-in-Some-clause-within : goal.returns-in-Some-clause-within
+returns-in-Some-clause-within c = search place-within
+
+pub returns-in-None-clause-named : goal.returns-in-None-clause-named
+returns-in-None-clause-named c = search none-named

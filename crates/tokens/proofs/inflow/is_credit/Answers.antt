@@ -1,6 +1,5 @@
 -- The member's name is one of the three.
 use Rattle.std.proofs.Common.{ℕ, ◌≡◌, refl, Bool, true, false, ◌||◌, List}
-use Rattle.laws.specs.Lists.{any}
 use Rattle.laws.specs.Texts.{bytes, same_bytes}
 use Rattle.fields.specs.Field.{Field}
 use Rattle.walking.specs.Walking.{method}

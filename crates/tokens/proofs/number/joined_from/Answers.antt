@@ -1,27 +1,37 @@
 -- Clause by clause or guard by guard, and in each condition by condition, the set found so far and what is left have the number
 -- of all.
 use Rattle.std.proofs.Common.{◌∙◌, rules}
-use Rattle.laws.proofs.Told.{told}
-use Rattle.fields.proofs.Tables.{listed-long}
-use Rattle.tokens.proofs.Numbers.{joining-on, joining-done, joining-several}
-use Rattle.tokens.proofs.Searching.{searching-all, searching-done, searching-here, searching-on, searching-several}
+use Rattle.tokens.proofs.Numbers.{joining-all, joining-on, joining-done, joining-several}
+use Rattle.tokens.proofs.Searching.{searching-all, searching-done, searching-past, searching-on, searching-several}
 use Rattle.tokens.proofs.number.joined_from.Goals as goal
 
 pub search-init : goal.search-init
-search-init c = (search searching-all, search rules)
+search-init c =
+    searching-all _ _ _ c.skip-entry.ensures _ _ _ c.parts_of.ensures.reads c.parts_of.ensures.shows _ _ c.into_iter-part-iterator.ensures.into_iter_gives
+    c.fields_at-part-items.ensures.rest c.fields_at-part-items.ensures.place _
 
-pub loop-i-init : goal.loop-i-init
-loop-i-init c =
-    searching-here _ _ _ _ _ _ _ _ c.search.invariant.0 (search told) _ (search rules) c.requires.standing.short _ c.requires.room _ _ _ c.search.invariant.1 c.list_conditions-count.ensures
+pub search-preserved-then-not-is_between : goal.search-preserved-then-not-is_between
+search-preserved-then-not-is_between c =
+    searching-past _ _ _ _ _ _ _ c.search.invariant _ _ c.in-Some.ensures.steps _ c.tag.ensures _ c.is_between.ensures c.if-not-is_between.true
 
-pub loop-i-preserved : goal.loop-i-preserved
-loop-i-preserved c = search joining-on
+pub loop-mark-init : goal.loop-mark-init
+loop-mark-init c = search joining-all
 
 pub search-preserved : goal.search-preserved
-search-preserved c = (search (searching-on, joining-done, told), listed-long c.list_conditions-count.ensures ∙ c.search.invariant.1)
+search-preserved c =
+    searching-on _ _ _ _ _ _ _ c.search.invariant _ _ c.in-Some.ensures.steps _ c.tag.ensures _ c.is_between.ensures c.if-not-is_between.false
+    _ c.skip-entry.ensures c.requires.standing.short _ (search rules) _ _ c.list_conditions-conditions.ensures _ c.listed-mark-items.ensures
+    _ (joining-done _ _ _ _ _ _ _ c.loop-mark.invariant c.loop-mark-test.false)
 
-pub returns-then-not-is_whole : goal.returns-then-not-is_whole
-returns-then-not-is_whole c = search (searching-done, told)
+pub loop-mark-preserved : goal.loop-mark-preserved
+loop-mark-preserved c = search joining-on
+
+pub returns-in-None : goal.returns-in-None
+returns-in-None c = searching-done _ _ _ _ _ _ _ c.search.invariant c.in-None.ensures.steps
 
 pub returns-then-found-eq1 : goal.returns-then-found-eq1
-returns-then-found-eq1 c = search (searching-several, joining-several, told)
+returns-then-found-eq1 c =
+    let several = joining-several _ _ _ _ _ _ _ c.loop-mark.invariant c.loop-mark-test.true _ (search rules) _ c.condition_number.ensures _ c.join-found.ensures c.if-found-eq1.true in
+    c.if-found-eq1.true
+    ∙ searching-several _ _ _ _ _ _ _ c.search.invariant _ _ c.in-Some.ensures.steps _ c.tag.ensures _ c.is_between.ensures c.if-not-is_between.false
+    _ c.skip-entry.ensures c.requires.standing.short _ (search rules) _ _ c.list_conditions-conditions.ensures _ c.listed-mark-items.ensures several

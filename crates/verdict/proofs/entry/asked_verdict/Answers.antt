@@ -1,37 +1,46 @@
 -- The first no, or the matching.
-use Rattle.entries.proofs.Reading.{entered}
-use Rattle.verdict.proofs.Placing.{told-tenth, left-tenth, told-eleventh, left-eleventh, told-twelfth, left-twelfth, told-unpaid, left-unpaid, told-matched, left-matched}
+use Rattle.std.proofs.Common.{arith, ◌≡◌, Ok, Err}
+use Rattle.std.proofs.lemmas.Result.{err_from_is_err_and}
+use Rattle.verdict.proofs.Placing.{told-no, left-no, entered-passed, room-passed, told-unpaid, left-unpaid, told-matched, left-matched}
 use Rattle.verdict.proofs.entry.asked_verdict.Goals as goal
 
-pub returns-then-entry-gt64-clause-answer : goal.returns-then-entry-gt64-clause-answer
-returns-then-entry-gt64-clause-answer c = search told-tenth
+pub returns-in_err-ask_entry-clause-answer : goal.returns-in_err-ask_entry-clause-answer
+returns-in_err-ask_entry-clause-answer c =
+    let p = err_from_is_err_and c.from_residual.result c.from_residual.ensures.1 in
+    let was : c.ask_entry.result ≡ Err c.in_err-ask_entry.field-0.0 = grind arith in
+    rw (p.1, p.2) (search told-no)
 
-pub returns-then-entry-gt64-clause-covers : goal.returns-then-entry-gt64-clause-covers
-returns-then-entry-gt64-clause-covers c = search left-tenth
-
-pub returns-then-entry-gt64-2-clause-answer : goal.returns-then-entry-gt64-2-clause-answer
-returns-then-entry-gt64-2-clause-answer c = search told-eleventh
-
-pub returns-then-entry-gt64-2-clause-covers : goal.returns-then-entry-gt64-2-clause-covers
-returns-then-entry-gt64-2-clause-covers c = search left-eleventh
-
-pub returns-then-covers-entry-clause-answer : goal.returns-then-covers-entry-clause-answer
-returns-then-covers-entry-clause-answer c = search told-twelfth
-
-pub returns-then-covers-entry-clause-covers : goal.returns-then-covers-entry-clause-covers
-returns-then-covers-entry-clause-covers c = search left-twelfth
+pub returns-in_err-ask_entry-clause-covers : goal.returns-in_err-ask_entry-clause-covers
+returns-in_err-ask_entry-clause-covers c =
+    let was : c.ask_entry.result ≡ Err c.in_err-ask_entry.field-0.0 = grind arith in
+    search left-no
 
 pub returns-then-entry-eq0-clause-answer : goal.returns-then-entry-eq0-clause-answer
-returns-then-entry-eq0-clause-answer c = search told-unpaid
+returns-then-entry-eq0-clause-answer c =
+    let passed : c.ask_entry.result ≡ Ok tt = grind arith in
+    search told-unpaid
 
 pub returns-then-entry-eq0-clause-covers : goal.returns-then-entry-eq0-clause-covers
-returns-then-entry-eq0-clause-covers c = search left-unpaid
+returns-then-entry-eq0-clause-covers c =
+    let passed : c.ask_entry.result ≡ Ok tt = grind arith in
+    search left-unpaid
 
 pub cover_payouts-requires-clause-entered : goal.cover_payouts-requires-clause-entered
-cover_payouts-requires-clause-entered c = search entered
+cover_payouts-requires-clause-entered c =
+    let passed : c.ask_entry.result ≡ Ok tt = grind arith in
+    search entered-passed
+
+pub cover_payouts-requires-clause-room : goal.cover_payouts-requires-clause-room
+cover_payouts-requires-clause-room c =
+    let passed : c.ask_entry.result ≡ Ok tt = grind arith in
+    search room-passed
 
 pub returns-clause-answer : goal.returns-clause-answer
-returns-clause-answer c = search told-matched
+returns-clause-answer c =
+    let passed : c.ask_entry.result ≡ Ok tt = grind arith in
+    search told-matched
 
 pub returns-clause-covers : goal.returns-clause-covers
-returns-clause-covers c = search left-matched
+returns-clause-covers c =
+    let passed : c.ask_entry.result ≡ Ok tt = grind arith in
+    search left-matched

@@ -1,56 +1,36 @@
 -- Payout by payout: those before the k-th have their covers.
-use Rattle.std.proofs.Common.{rules}
-use Rattle.verdict.proofs.Running.{running_none, running-held, running-kept, running-long, running-facts, running-room, running-wide, running-ready, running-next, running-on}
-use Rattle.verdict.proofs.Running.{rejected-told, rejected-unwritten, done-told, done-written, done-long}
+use Rattle.std.proofs.Common.{rules, arith, ◌≡◌, Ok, Err}
+use Rattle.std.proofs.lemmas.Result.{err_from_is_err_and}
+use Rattle.verdict.specs.declared.entry.Objection.TheVariants.{Rejected}
+use Rattle.verdict.proofs.Running.{objected, running_none, rejected-told, rejected-unwritten, running-on, done-told, done-written}
 use Rattle.verdict.proofs.entry.match_payouts.Goals as goal
 
 pub loop-k-init : goal.loop-k-init
 loop-k-init c = search running_none
 
-pub answer_payout-answered-requires-clause-ready : goal.answer_payout-answered-requires-clause-ready
-answer_payout-answered-requires-clause-ready c = search running-ready
+pub returns-in_err-cover-clause-answer : goal.returns-in_err-cover-clause-answer
+returns-in_err-cover-clause-answer c =
+    let p = err_from_is_err_and c.from_residual.result c.from_residual.ensures.1 in
+    let was : c.map_err.result ≡ Err c.in_err-cover.field-0.0 = grind arith in
+    let w = objected _ c.answer_payout-answer.result c.map_err.result c.map_err.ensures.cases c.in_err-cover.field-0.0 was in
+    let is : c.in_err-cover.field-0.0 ≡ Rejected c.loop-k.k-counter w.0 = search (w.2, rules) in
+    let rejected : c.answer_payout-answer.result ≡ Err w.0 = w.1 in
+    rw (p.1, p.2, is) (search rejected-told)
 
-pub answer_payout-answered-requires-clause-scratch : goal.answer_payout-answered-requires-clause-scratch
-answer_payout-answered-requires-clause-scratch c = search running-room
-
-pub shape_of-facts-in-Rejected : goal.shape_of-facts-in-Rejected
-shape_of-facts-in-Rejected c = search running-kept
-
-pub shape_of-scratch-in-Rejected : goal.shape_of-scratch-in-Rejected
-shape_of-scratch-in-Rejected c = search (running-long, rules)
-
-pub returns-in-Rejected-clause-answer : goal.returns-in-Rejected-clause-answer
-returns-in-Rejected-clause-answer c = search rejected-told
-
-pub returns-in-Rejected-clause-covers : goal.returns-in-Rejected-clause-covers
-returns-in-Rejected-clause-covers c = search rejected-unwritten
-
-pub slice_bounds-write_cover-end : goal.slice_bounds-write_cover-end
-slice_bounds-write_cover-end c = search (running-wide, rules)
-
-pub write_cover-written-requires : goal.write_cover-written-requires
-write_cover-written-requires c = search running-next
+pub returns-in_err-cover-clause-covers : goal.returns-in_err-cover-clause-covers
+returns-in_err-cover-clause-covers c =
+    let was : c.map_err.result ≡ Err c.in_err-cover.field-0.0 = grind arith in
+    let w = objected _ c.answer_payout-answer.result c.map_err.result c.map_err.ensures.cases c.in_err-cover.field-0.0 was in
+    let rejected : c.answer_payout-answer.result ≡ Err w.0 = w.1 in
+    search rejected-unwritten
 
 pub loop-k-preserved : goal.loop-k-preserved
-loop-k-preserved c = search running-on
-
-pub slice_bounds-copy_sheet-end : goal.slice_bounds-copy_sheet-end
-slice_bounds-copy_sheet-end c = search (running-wide, rules)
-
-pub copy_sheet-requires-clause-there : goal.copy_sheet-requires-clause-there
-copy_sheet-requires-clause-there c = search done-long
-
-pub shape_of-facts : goal.shape_of-facts
-shape_of-facts c = search running-held
-
-pub shape_of-scratch : goal.shape_of-scratch
-shape_of-scratch c = search (running-long, rules)
+loop-k-preserved c =
+    let was : c.answer_payout-answer.result ≡ Ok c.in_ok-cover.cover = grind arith in
+    search running-on
 
 pub returns-clause-answer : goal.returns-clause-answer
 returns-clause-answer c = search done-told
 
 pub returns-clause-covers : goal.returns-clause-covers
 returns-clause-covers c = search done-written
-
-pub returns-clause-facts : goal.returns-clause-facts
-returns-clause-facts c = search running-facts

@@ -1,54 +1,63 @@
 -- A file that a question refuses has that verdict, and one that passes is short enough for its entries to be asked about.
-use Rattle.std.proofs.Common.{ℕ, ◌≡◌, List, length}
+use Rattle.std.proofs.Common.{ℕ, ◌≡◌, List, length, arith, Ok, Err}
+use Rattle.std.proofs.lemmas.Result.{err_from_is_err_and}
 use Rattle.fields.specs.Field.{fields}
 use Rattle.questions.specs.Questions.{ask_file}
-use Rattle.questions.specs.Answers.{asked}
-use Rattle.questions.specs.declared.check.Answer.{Answer}
-use Rattle.questions.specs.declared.check.Answer.TheVariants as question
-use Rattle.claim.specs.Verdict.{refused, entry_at, entry_verdict, verdict, outcome, first_of, second_of, written}
-use Rattle.verdict.specs.Coded.{numbers_of, numbers}
-use Rattle.verdict.specs.declared.entry.Verdict.{Verdict as CodedVerdict}
-use Rattle.verdict.specs.declared.entry.Verdict.TheVariants.{Refused}
+use Rattle.questions.specs.Answers.{Answered, number_of, asked}
+use Rattle.questions.specs.declared.question.Refusal.{Refusal}
+use Rattle.claim.specs.Verdict.{refused, entry_at, entry_verdict, verdict, written}
 use Rattle.claim.proofs.Fitting.{answered-passes, answered-short}
+use Rattle.verdict.specs.Coded.{Told, numbers_of, numbers}
+use Rattle.verdict.specs.declared.entry.Objection.TheVariants.{Refused}
+use Rattle.verdict.proofs.Placing.{told-refused, left-refused}
 use Rattle.verdict.proofs.file.file_verdict.Goals as goal
 
-module _ (file : List ℕ) (a : Answer) (e : asked a ≡ ask_file file) where
-  module _ (h : a ≡ question.Passes) (n : ℕ) (lent : List ℕ) where
+module _ (file : List ℕ) (a : Answered) (e : asked a ≡ ask_file file) where
+  module _ (h : a ≡ Ok tt) (n : ℕ) (lent : List ℕ) where
     same : verdict file n (length lent) ≡ entry_verdict (fields file) n (length lent)
     unfolding verdict
     same = cc (answered-passes file a e h)
 
-    told-passed : (x : CodedVerdict) → numbers_of x ≡ numbers (entry_at (fields file) n).this (entry_verdict (fields file) n (length lent)) →
+    told-passed : (x : Told) → numbers_of x ≡ numbers (entry_at (fields file) n).this (entry_verdict (fields file) n (length lent)) →
         numbers_of x ≡ numbers (entry_at (fields file) n).this (verdict file n (length lent))
     told-passed x f = rw same f
 
     left_passed : (left : List ℕ) → left ≡ written (entry_verdict (fields file) n (length lent)) lent → left ≡ written (verdict file n (length lent)) lent
     left_passed left f = rw same f
 
-  module _ (k p : ℕ) (h : a ≡ question.Refused k p) (n : ℕ) (lent : List ℕ) where
-    no : verdict file n (length lent) ≡ refused k p
+  module _ (d : Refusal) (h : a ≡ Err d) (n : ℕ) (lent : List ℕ) where
+    no : verdict file n (length lent) ≡ refused (number_of d.question) d.place
     unfolding verdict
     no = cc
 
-    told-no : numbers_of (Refused k p) ≡ numbers (entry_at (fields file) n).this (verdict file n (length lent))
-    unfolding numbers_of numbers outcome first_of second_of
-    told-no = rw no
+    told-no : numbers_of (Err (Refused d)) ≡ numbers (entry_at (fields file) n).this (verdict file n (length lent))
+    told-no = told-refused (verdict file n (length lent)) d no (entry_at (fields file) n).this
 
     left-no : lent ≡ written (verdict file n (length lent)) lent
-    unfolding written
-    left-no = rw no
+    left-no = left-refused (verdict file n (length lent)) d no lent
+
+pub returns-in_err-check_file-clause-answer : goal.returns-in_err-check_file-clause-answer
+returns-in_err-check_file-clause-answer c =
+    let p = err_from_is_err_and c.from_residual.result c.from_residual.ensures.1 in
+    let was : c.check_file.result ≡ Err c.in_err-check_file.field-0.0 = grind arith in
+    rw (p.1, p.2) (search told-no)
+
+pub returns-in_err-check_file-clause-covers : goal.returns-in_err-check_file-clause-covers
+returns-in_err-check_file-clause-covers c =
+    let was : c.check_file.result ≡ Err c.in_err-check_file.field-0.0 = grind arith in
+    search left-no
 
 pub entry_verdict-requires : goal.entry_verdict-requires
-entry_verdict-requires c = search answered-short
+entry_verdict-requires c =
+    let passed : c.check_file.result ≡ Ok tt = grind arith in
+    search answered-short
 
-pub returns-in-Refused-clause-answer : goal.returns-in-Refused-clause-answer
-returns-in-Refused-clause-answer c = search told-no
+pub returns-clause-answer : goal.returns-clause-answer
+returns-clause-answer c =
+    let passed : c.check_file.result ≡ Ok tt = grind arith in
+    search told-passed
 
-pub returns-in-Refused-clause-covers : goal.returns-in-Refused-clause-covers
-returns-in-Refused-clause-covers c = search left-no
-
-pub returns-in-Passes-clause-answer : goal.returns-in-Passes-clause-answer
-returns-in-Passes-clause-answer c = search told-passed
-
-pub returns-in-Passes-clause-covers : goal.returns-in-Passes-clause-covers
-returns-in-Passes-clause-covers c = search left_passed
+pub returns-clause-covers : goal.returns-clause-covers
+returns-clause-covers c =
+    let passed : c.check_file.result ≡ Ok tt = grind arith in
+    search left_passed

@@ -6,18 +6,18 @@ pub returns-in-EqualDebit : goal.returns-in-EqualDebit
 unfolding index
 returns-in-EqualDebit c = cc
 
-pub returns-in-EqualParameter : goal.returns-in-EqualParameter
+pub returns-in-EqualDebit-2 : goal.returns-in-EqualDebit-2
 unfolding index
-returns-in-EqualParameter c = cc
+returns-in-EqualDebit-2 c = cc
 
-pub returns-in-BoundingDebit : goal.returns-in-BoundingDebit
+pub returns-in-EqualDebit-3 : goal.returns-in-EqualDebit-3
 unfolding index
-returns-in-BoundingDebit c = cc
+returns-in-EqualDebit-3 c = cc
 
-pub returns-in-BoundingParameter : goal.returns-in-BoundingParameter
+pub returns-in-EqualDebit-4 : goal.returns-in-EqualDebit-4
 unfolding index
-returns-in-BoundingParameter c = cc
+returns-in-EqualDebit-4 c = cc
 
-pub returns-in-Reserve : goal.returns-in-Reserve
+pub returns-in-EqualDebit-5 : goal.returns-in-EqualDebit-5
 unfolding index
-returns-in-Reserve c = cc
+returns-in-EqualDebit-5 c = cc

@@ -1,21 +1,18 @@
 -- Whoever lists what is left of the row has listed all.
-use Rattle.laws.proofs.Told.{told}
-use Rattle.fields.proofs.Reading.{after_less}
-use Rattle.fields.proofs.Listing.{along-fits, listing-all, listing-on, listing-done}
+use Rattle.std.proofs.Common.{rules}
+use Rattle.fields.proofs.Gathering.{gathering-all, gathering-room, gathering-on, gathering-done}
 use Rattle.walking.proofs.Visits.{statements}
 use Rattle.walking.proofs.walk.visit_statements.Goals as goal
 
-pub loop-t-init : goal.loop-t-init
-loop-t-init c = search listing-all
+pub loop-part-init : goal.loop-part-init
+loop-part-init c = search (gathering-all, rules)
 
-pub overflow_add-at-in-loop-t : goal.overflow_add-at-in-loop-t
-overflow_add-at-in-loop-t c = search (along-fits, told)
+pub visit_statement-requires : goal.visit_statement-requires
+visit_statement-requires c = gathering-room (statements c.args.tag) _ _ _ _ c.loop-part.invariant _ _ c.in-Some.ensures.steps
 
-pub loop-t-smaller : goal.loop-t-smaller
-loop-t-smaller c = search (after_less, told)
-
-pub loop-t-preserved : goal.loop-t-preserved
-loop-t-preserved c = search (listing-on statements, told)
+pub loop-part-preserved : goal.loop-part-preserved
+loop-part-preserved c =
+    gathering-on (statements c.args.tag) _ _ _ _ c.loop-part.invariant _ _ c.in-Some.ensures.steps _ c.visit_statement.ensures
 
 pub returns : goal.returns
-returns c = search (listing-done statements, told)
+returns c = gathering-done (statements c.args.tag) _ _ _ _ c.loop-part.invariant c.in-None.ensures.steps

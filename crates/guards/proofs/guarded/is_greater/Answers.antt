@@ -1,6 +1,0 @@
--- The two operators, one by one.
-
-use Rattle.guards.proofs.guarded.is_greater.Goals as goal
-
-pub returns : goal.returns
-returns c = cc

@@ -1,9 +1,0 @@
--- Each number brings the end nearer.
-use Rattle.std.proofs.Common.{◌-◌, ◌≤◌, length}
-use Rattle.reserves.proofs.ahead.is_in.Given as goal
-
-abbrev pub invariant-loop-i : goal.invariant-loop-i
-invariant-loop-i l = l.i ≤ length l.table
-
-abbrev pub decreases-loop-i : goal.decreases-loop-i
-decreases-loop-i l = length l.table - l.i
