@@ -17,7 +17,7 @@ use Rattle.raises.proofs.Statements.{raises-chosen, raises-only}
 use Rattle.reserve_tokens.specs.declared.raise.Raising.{Raising}
 use Rattle.reserve_tokens.specs.ReserveTokens.{credited}
 use Rattle.reserve_tokens.specs.Reserving.{with_amount}
-use Rattle.reserve_tokens.specs.Numbers.{debit_number, raise_number, numbers_in}
+use Rattle.reserve_tokens.specs.Numbers.{only_number, guard_numbers, debit_number, raise_number, numbers_in}
 use Rattle.reserve_tokens.specs.Agreeing.{RaisesOf}
 use Rattle.reserve_tokens.proofs.Called.{credited-any, debit-found, any-placed, find-placed}
 
@@ -38,8 +38,8 @@ module _ (file : List ℕ) (en : Raising) (w : RaisesOf file en) (v : Field) (ca
     pub credited-too : b ≡ true → 0 ≡ cond (credited entry v) 0 en.guard
     credited-too h = rw (← credited-is, h)
 
-    pub by-guard : b ≡ false → en.guard ≡ cond (credited entry v) 0 en.guard
-    by-guard h = rw (← credited-is, h)
+    pub not-credited : b ≡ false → en.guard ≡ cond (credited entry v) 0 en.guard
+    not-credited h = rw (← credited-is, h)
 
   module _ (o : Option ℕ) (e : o ≡ find (λ call. with_amount is_debit v (front (drop call file))) calls) where
     debit-is : elim o [ None ↦ 0 | Some call ↦ funding_number file (receiver (front (drop call file))) ] ≡ debit_number file entry v
@@ -55,6 +55,18 @@ module _ (file : List ℕ) (en : Raising) (w : RaisesOf file en) (v : Field) (ca
     pub debit-there : (call : ℕ) → o ≡ Some call → (k : ℕ) → k ≡ call → (x : List ℕ) → x ≡ drop k file → (m : List ℕ) → m ≡ receiver (front x) →
         (number : ℕ) → number ≡ funding_number file m → number ≡ debit_number file entry v
     debit-there call h k f x g m i number j = rw (j, i, g, f) (rw h at debit-is)
+
+-- so a raise has the number of a guard's token, or of the map of a debit, by whatever fields are the calls of the entry
+module _ (file : List ℕ) (v : Field) (entry : Placed) (fs : List Field) (e : fs ≡ filter is_call (exprs entry.this)) where
+  pub by-guard : is_inflow entry.this v ≡ true → (guard : ℕ) → guard ≡ only_number (guard_numbers file entry) →
+      cond (any (with_amount is_credit v) fs) 0 guard ≡ raise_number file entry v
+  unfolding raise_number
+  by-guard i guard g = rw (i, credited-any entry.this v fs e, g)
+
+  pub by-debit : is_inflow entry.this v ≡ false →
+      elim (find (with_amount is_debit v) fs) [ None ↦ 0 | Some d ↦ funding_number file (receiver d) ] ≡ raise_number file entry v
+  unfolding raise_number debit_number
+  by-debit i = rw i (sym (ap (λ o. elim o [ None ↦ 0 | Some d ↦ funding_number file (receiver d) ]) (debit-found entry.this v fs e)))
 
 -- what the code tests
 module _ (file : List ℕ) (en : Raising) (w : RaisesOf file en) (x : List ℕ) (e : x ≡ drop en.place file) where

@@ -1,5 +1,5 @@
 -- Questions 9 to 12: the first "no" is the verdict, and where there is none the matching is.
-use Rattle.std.proofs.Common.{ℕ, ◌≤◌, ◌<◌, ◌≡◌, refl, sym, ap, ◌∙◌, Bool, true, false, List, [], ◌∷◌, arith, lt-ltb, le-ltb, ltb-true, ltb-false, ltb, length, get_or}
+use Rattle.std.proofs.Common.{ℕ, ◌≤◌, ◌<◌, ◌≡◌, refl, sym, ap, ◌∙◌, Bool, true, false, List, [], ◌∷◌, arith, lt-ltb, le-ltb, ltb-true, ltb-false, ltb, length, get_or, drop}
 use Rattle.std.proofs.Common.{take_all}
 use mathlib.Core.Bool.{false≢true}
 use Rattle.std.proofs.Common.{Option, Some, None, IfSome, zero, suc, ◌+◌}
@@ -14,9 +14,12 @@ use Rattle.fields.specs.declared.field.Field.{Field}
 use Rattle.fields.proofs.Places.{tree-size}
 use Rattle.fields.proofs.Inside.{Stands, row-stands}
 use Rattle.model.specs.Model.{entries}
+use Rattle.walking.specs.Walking.{is_payout}
 use Rattle.walking.specs.Table.{placed_at}
+use Rattle.questions.specs.Questions.{at_most}
+use Rattle.entries.specs.Calls.{body_where}
 use Rattle.claim.specs.Verdict.{refused, entry_at, ask_entry, entry_verdict}
-use Rattle.verdict.specs.Coded.{placed_verdict}
+use Rattle.verdict.specs.Coded.{placed_verdict, backed_verdict}
 use Rattle.verdict.specs.Place.{place_of_entry}
 
 -- Question 9: the entry that is shown
@@ -106,3 +109,14 @@ module _ (model : Fields) (n lent : ℕ) where
   pub not-ninth : n < length (entries model) → (e : Placed) → entry_at model n ≡ e → entry_verdict model n lent ≡ placed_verdict model e lent
   unfolding entry_verdict ask_entry placed_verdict
   not-ninth h e f = cc (lt-ltb n (length (entries model)) h)
+
+-- Question 10: the "no", or the verdict past it
+
+module _ (model : Fields) (e : Placed) (lent : ℕ) where
+  pub tenth : (p : Placed) (ps : List Placed) → drop 64 (body_where is_payout e) ≡ p ∷ ps → placed_verdict model e lent ≡ refused 10 p.place
+  unfolding placed_verdict at_most
+  tenth p ps k = cc k
+
+  pub not-tenth : drop 64 (body_where is_payout e) ≡ [] → placed_verdict model e lent ≡ backed_verdict model e lent
+  unfolding placed_verdict backed_verdict at_most
+  not-tenth k = cc k

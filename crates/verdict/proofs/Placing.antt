@@ -52,9 +52,9 @@ module _ (file : List ℕ) (en : Entry) (v : Read file en) (lent : List ℕ) whe
   unfolding backing_count
   all = omega (arith, v.all, v.counted)
 
-  tenth : ask (leb en.payouts 64) 10 (get_or en.paid 64 0) ≡ at_most 64 10 those
+  ten-same : ask (leb en.payouts 64) 10 (get_or en.paid 64 0) ≡ at_most 64 10 those
   unfolding at_most
-  tenth = go (leb en.payouts 64) refl
+  ten-same = go (leb en.payouts 64) refl
     where
       go : (b : Bool) → leb en.payouts 64 ≡ b → ask (leb en.payouts 64) 10 (get_or en.paid 64 0) ≡ at_most 64 10 those
       go true h = rw (h, at_most, drop_of_length-le those {i = 64} (omega (arith, many, leb-true en.payouts 64 h)))
@@ -64,7 +64,7 @@ module _ (file : List ℕ) (en : Entry) (v : Read file en) (lent : List ℕ) whe
 
   asked-same : ask_counted en (length lent) ≡ ask_placed here (length lent)
   unfolding ask_counted
-  asked-same = rw (tenth, all, v.many)
+  asked-same = rw (ten-same, all, v.many)
 
   abbrev told : Told → Type 0
   told x = numbers_of x ≡ placed_answer file en.place (length lent)
