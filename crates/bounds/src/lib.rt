@@ -21,7 +21,8 @@ pub enum Amount<'a> {
     OfParameter(&'a [u8]),
 }
 
-// Whether the rule goes into the first part of a field with that tag.
+// Whether the rule goes into the first part of a field with that tag. Wrapping is on or off in the rule, too, and C hands it on as a
+// Bool.
 #[tactic(auto, unfolding(crate::specs::Bounds::goes_left))]
 fn goes_left(tag: u8, wrapping: bool) -> bool
     ensures { result ≡ goes_left tag wrapping }

@@ -12,7 +12,7 @@ use Rattle.fields.specs.declared.field.Fields.{Fields}
 use Rattle.fields.specs.declared.field.Field.{Field as Found}
 use Rattle.fields.specs.declared.table.Table.{Table}
 use Rattle.fields.proofs.Reading.{fields-next, fields-end}
-use Rattle.fields.proofs.Tables.{listed-none}
+use Rattle.fields.proofs.Tables.{listed-none, lists-none}
 use Rattle.fields.proofs.Places.{parts-shorter}
 use Rattle.fields.proofs.Gathering.{Gathers}
 use Rattle.conditions.specs.Conditions.{split_and, split_each, split_first, negated, negated_each, negated_first, conditions_of}
@@ -44,7 +44,7 @@ module _ (f : Found) (t : Table ℕ) (g : ℕ) (e : g ≡ tag (front f.part.now)
     negated-here h p = rw (negated-step f.place (front f.part.now), ← e, ne_eqb g Not m, ne_eqb g Or l, ← o, h) p
 
     pub negated-other : b ≡ false → Lists (marks (negated f.place (front f.part.now))) t t
-    negated-other h = rw (negated-step f.place (front f.part.now), ← e, ne_eqb g Not m, ne_eqb g Or l, ← o, h) (listed-none t.items.now t.count)
+    negated-other h = rw (negated-step f.place (front f.part.now), ← e, ne_eqb g Not m, ne_eqb g Or l, ← o, h) (lists-none t)
 
   module _ (x : Fields) (z : x.place ≡ f.place + 3) (r : fields x.rest.now ≡ parts (front f.part.now)) where
     pub split_parts : g ≡ And → Lists (marks (split_each x.place (fields x.rest.now))) t u → Lists (marks (split_and f.place (front f.part.now))) t u
@@ -60,7 +60,7 @@ module _ (f : Found) (t : Table ℕ) (g : ℕ) (e : g ≡ tag (front f.part.now)
 module _ (s : Fields) (t : Table ℕ) where
   pub none-split : whole s.rest.now ≡ false → Lists (marks (split_first s.place (fields s.rest.now))) t t
   unfolding split_first
-  none-split w = rw (fields-end s.rest.now w) (listed-none t.items.now t.count)
+  none-split w = rw (fields-end s.rest.now w) (lists-none t)
 
   module _ (f : Found) (b : Fields) (h : Step s f b) (u : Table ℕ) where
     first-split : split_first s.place (fields s.rest.now) ≡ split_and f.place (front f.part.now)
@@ -89,7 +89,7 @@ module _ (f : Found) (x : Fields) (z : x.place ≡ f.place + 3) (r : fields x.re
       Lists (marks (cond (eqb g Denies) (negated h.place (front h.part.now)) (split_and h.place (front h.part.now)))) none u →
       Listed (marks (conditions_of (shown f))) t 0 u.items.now u.count
   unfolding conditions_of
-  one-listed g e h b s u p = rw (← e, ← z, ← r, first-negated x none h b s u, first-split x none h b s u) (rw (i, j) at p)
+  one-listed g e h b s u p = rw (← e, ← z, ← r, first-negated x none h b s u, first-split x none h b s u) (rw (i, j) at p.listed)
 
 -- Why the walk ends: the parts of an expression are shorter by three bytes, which pays for the two calls in between
 pub each-falls : (f : Found) (x : Fields) → x.rest.now ≡ take (sizes (parts (front f.part.now))) (drop 3 f.part.now) → (t : ℕ) → 2 * length f.part.now ≡ t →

@@ -36,6 +36,7 @@ fn split(field: Field, conditions: &mut Table<u16>)
     if field.tag() == AND {
         return list_each(field.parts(), false, conditions);
     }
+    // By `as`, here and below: a remainder, of which try_from would have an error that cannot be.
     conditions.note((field.place % FLIPPED) as u16)
 }
 
@@ -68,7 +69,8 @@ fn negate(field: Field, conditions: &mut Table<u16>)
     }
 }
 
-// What an expression gives where it is denied or required.
+// What an expression gives where it is denied or required. The definitions choose by the same yes or no, which a clause's tag gives: an enum
+// of two would say no more.
 #[cycle(split_negate)]
 fn list_one(field: Field, denied: bool, conditions: &mut Table<u16>)
     requires { 3 * conditions.old.count + length field.part.now < 3 * 2 ^ 64 }
@@ -95,7 +97,8 @@ fn list_each(parts: Fields, denied: bool, conditions: &mut Table<u16>)
 // Lists the conditions of a clause or a guard, which stands at a place of its entry, as far as the table has room. A number is the place
 // of the condition's expression, counted from the entry's own, with 32,768 more if the condition is flipped.
 pub fn list_conditions<'t>(field: Field, table: &'t mut [u16]) -> Table<'t, u16>
-    ensures { Listed (marks (conditions_of (shown field.entry))) table.old 0 result.items.now result.count }
+    ensures same_reference { result.items.ghost_name ≡ table.entry.ghost_name }
+    ensures listed { Listed (marks (conditions_of (shown field.entry))) table.old 0 result.items.now result.count }
 {
     let mut conditions = empty_table(table);
     if let Some(expression) = field.parts().next() {

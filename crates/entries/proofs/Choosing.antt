@@ -4,7 +4,7 @@ use Rattle.laws.proofs.Lists.{filter-append}
 use Rattle.fields.specs.Field.{Field, front}
 use Rattle.fields.specs.Lists.{Lists}
 use Rattle.fields.specs.declared.table.Table.{Table}
-use Rattle.fields.proofs.Tables.{listed-none, listed_then}
+use Rattle.fields.proofs.Tables.{lists-none, lists_then}
 use Rattle.entries.specs.Calls.{passes_at, places_where}
 
 pub record Choosing (file : List ℕ) (Says : (Field → Bool) → Type 0) (calls : List ℕ) (table : Table ℕ) (i : ℕ) (last : Table ℕ) : Type 0 where
@@ -26,13 +26,12 @@ module _ (file : List ℕ) (Says : (Field → Bool) → Type 0) (calls : List �
         one-more passes s v p =
             let here : b ≡ passes (front (drop call file)) = f passes s ∙ rw (g, e) in
             rw (add-one i, take-suc calls i 0 h, filter-append (passes_at file passes) (take i calls) (call ∷ []), ← here)
-            (listed_then _ _ table.items.now last.items.now v.items.now table.count last.count v.count (c.so_far passes s) p)
+            (lists_then (c.so_far passes s) p)
 
-        pub choosing-listed : b ≡ true → (v : Table ℕ) → v.items.ghost_name ≡ last.items.ghost_name → Lists (call ∷ []) last v →
-            Choosing file Says calls table (i + 1) v
-        choosing-listed t v y p =
-            record { same = y ∙ c.same; few = omega (arith, p.count, c.few); so_far = λ passes s. one-more passes s v (rw t p) }
+        pub choosing-listed : b ≡ true → (v : Table ℕ) → Lists (call ∷ []) last v → Choosing file Says calls table (i + 1) v
+        choosing-listed t v p =
+            record { same = p.same ∙ c.same; few = omega (arith, p.listed.count, c.few); so_far = λ passes s. one-more passes s v (rw t p) }
 
         pub choosing-passed : b ≡ false → Choosing file Says calls table (i + 1) last
         choosing-passed t =
-            record { same = c.same; few = omega (arith, c.few); so_far = λ passes s. one-more passes s last (rw t (listed-none last.items.now last.count)) }
+            record { same = c.same; few = omega (arith, c.few); so_far = λ passes s. one-more passes s last (rw t (lists-none last)) }

@@ -70,7 +70,7 @@ module _ (file : List ℕ) (place : ℕ) (calls : List ℕ) (c : CallsOf file pl
       -- each asset parameter has one place
       parameters-counted : backed.count ≡ debits.count + length (asset_params (entry_of file place))
       parameters-counted =
-          q.count
+          q.listed.count
           ∙ ap (λ n. debits.count + n) (sym (length-map (asset_places (place + 3) (parts (front (drop place file)))) (name_at file)) ∙ ap length (names-read file place))
 
       wide : (n : ℕ) → length (replicate {A = ℕ} n 0) ≡ n
@@ -92,9 +92,9 @@ module _ (file : List ℕ) (place : ℕ) (calls : List ℕ) (c : CallsOf file pl
             paid = λ h. rw e (where-read file place calls c is_payout payout-call (replicate 65 0) paid.items.now paid.count p (omega (arith, wide 65, h)) ∙ payouts-where (placed_at file place));
             counted = where-counted file place calls c is_debit debit-call (replicate 64 0) debits.items.now debits.count l ∙ ap length (debits-where (placed_at file place));
             all = parameters-counted;
-            listed = λ h. rw (f, front-stays file place debits.items.now debits.count backed.items.now backed.count q (room h))
+            listed = λ h. rw (f, front-stays file place debits.items.now debits.count backed.items.now backed.count q.listed (room h))
                 (where-read file place calls c is_debit debit-call (replicate 64 0) debits.items.now debits.count l (omega (arith, wide 64, h, parameters-counted)) ∙ debits-where (placed_at file place));
-            named = λ h i g. rw f (name-there file place debits.items.now debits.count backed.items.now backed.count q (room h) i (omega (arith, g, parameters-counted)));
+            named = λ h i g. rw f (name-there file place debits.items.now debits.count backed.items.now backed.count q.listed (room h) i (omega (arith, g, parameters-counted)));
           }
 
 -- A table of places, as far as it was filled, by numbers

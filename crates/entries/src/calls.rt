@@ -42,8 +42,7 @@ pub fn list_where<'t, F: Fn(&[u8]) -> bool>(
 fn list_parameter(field: &Field, places: &mut Table<u16>)
     requires place { field.now.place < 65536 }
     requires room { places.old.count + 1 < 2 ^ 64 }
-    ensures same_reference { places.new.items.ghost_name ≡ places.old.items.ghost_name }
-    ensures lists { Lists (asset_place (shown field.now)) places.old places.new }
+    ensures { Lists (asset_place (shown field.now)) places.old places.new }
 {
     if field.tag() != PARAMETER {
         return;
@@ -51,14 +50,14 @@ fn list_parameter(field: &Field, places: &mut Table<u16>)
     if !is_asset_parameter(field.part) {
         return;
     }
+    // By `as`: the place is small by the contract, and try_from would have an error that cannot be.
     places.note(field.place as u16);
 }
 
 // Lists the asset parameters of the entry at a place of the file.
 pub fn list_parameters(file: &[u8], place: usize, places: &mut Table<u16>)
     requires { Standing file.now place places.old.count }
-    ensures same_reference { places.new.items.ghost_name ≡ places.old.items.ghost_name }
-    ensures lists { Lists (asset_places (place + 3) (parts (front (drop place file.now)))) places.old places.new }
+    ensures { Lists (asset_places (place + 3) (parts (front (drop place file.now)))) places.old places.new }
 {
     for field in fields_at(parts_of(skip(file, place)), place + 3) {
         list_parameter(&field, places);

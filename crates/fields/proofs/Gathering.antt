@@ -1,5 +1,5 @@
 -- Listing along a row: what is listed of each field in turn, behind what was listed before, is what is listed of the row.
-use Rattle.std.proofs.Common.{ℕ, ◌+◌, ◌-◌, ◌*◌, ◌^◌, ◌≤◌, ◌<◌, ◌≡◌, refl, false, List, [], ◌++◌, arith, leb-true, ap, length, take, drop, length-drop}
+use Rattle.std.proofs.Common.{ℕ, ◌+◌, ◌-◌, ◌*◌, ◌^◌, ◌≤◌, ◌<◌, ◌≡◌, refl, ◌∙◌, false, List, [], ◌++◌, arith, leb-true, ap, length, take, drop, length-drop}
 use Rattle.fields.specs.Field.{Field, Fields as Tree, fields, front, parts, size, sizes, whole, length_of, after}
 use Rattle.fields.specs.Field.Fields.{end, next}
 use Rattle.fields.specs.Table.{Listed}
@@ -23,18 +23,23 @@ pub record Gathering {X : Type 0} (many : ℕ → Tree → List X) (all : Fields
   pub room : 3 * last.count + length rest.rest.now < 3 * 2 ^ 64
   pub within : length rest.rest.now ≤ length all.rest.now
   pub ends : rest.place + length rest.rest.now ≡ all.place + length all.rest.now
+  pub same : last.items.ghost_name ≡ table.items.ghost_name
   pub left : (v : List X) (r : ℕ) → Listed (many rest.place (fields rest.rest.now)) last.items.now last.count v r →
       Listed (many all.place (fields all.rest.now)) table.items.now table.count v r
 
 pub gathering-all : {X : Type 0} (many : ℕ → Tree → List X) (all : Fields) (table : Table X) → 3 * table.count + length all.rest.now < 3 * 2 ^ 64 →
     Gathering many all table all table
-gathering-all many all table h = record { room = h; within = omega arith; ends = refl; left = λ v r p. p }
+gathering-all many all table h = record { room = h; within = omega arith; ends = refl; same = refl; left = λ v r p. p }
 
 module _ {X : Type 0} {one : ℕ → Field → List X} {many : ℕ → Tree → List X} (by : Gathers one many)
     (all : Fields) (table : Table X) (rest : Fields) (last : Table X) (i : Gathering many all table rest last) where
   pub gathering-done : whole rest.rest.now ≡ false → Lists (many all.place (fields all.rest.now)) table last
   gathering-done w =
-      i.left last.items.now last.count (rw (fields-end rest.rest.now w, by.none rest.place rest.rest.now) (listed-none last.items.now last.count))
+      record {
+        listed =
+          i.left last.items.now last.count (rw (fields-end rest.rest.now w, by.none rest.place rest.rest.now) (listed-none last.items.now last.count));
+        same = i.same;
+      }
 
   module _ (f : Found) (behind : Fields) (s : Step rest f behind) where
     pub gathering-room : 3 * last.count + length f.part.now < 3 * 2 ^ 64
@@ -55,7 +60,7 @@ module _ {X : Type 0} {one : ℕ → Field → List X} {many : ℕ → Tree → 
       next-listed v r q =
           let t = rest.rest.now in
           rw (fields-next t s.there, by.more rest.place (front t) (fields (after t)), front-size t s.there, ← s.behind, ← s.rest)
-          (listed_then _ _ last.items.now then.items.now v last.count then.count r one-listed q)
+          (listed_then _ _ last.items.now then.items.now v last.count then.count r one-listed.listed q)
 
       pub gathering-on : Gathering many all table behind then
       gathering-on =
@@ -64,9 +69,10 @@ module _ {X : Type 0} {one : ℕ → Field → List X} {many : ℕ → Tree → 
           let d : length behind.rest.now ≡ length t - (3 + length_of t) = rw (s.rest, length-drop) in
           let q = by.few rest.place (front t) in
           record {
-            room = omega (arith, l, d, q, i.room, one-listed.count, front-size t s.there);
+            room = omega (arith, l, d, q, i.room, one-listed.listed.count, front-size t s.there);
             within = omega (arith, i.within, after_less t behind.rest.now s.there s.rest);
             ends = omega (arith, i.ends, l, d, s.behind);
+            same = one-listed.same ∙ i.same;
             left = λ v r q. i.left v r (next-listed v r q);
           }
 

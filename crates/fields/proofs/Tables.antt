@@ -4,6 +4,8 @@ use borrow.Author.Tests.{not-true, not-false}
 use lib.Seq.{set_out, sets-eq, length-sets}
 use Rattle.laws.proofs.Tables.{sets-append}
 use Rattle.fields.specs.Table.{Listed}
+use Rattle.fields.specs.Lists.{Lists}
+use Rattle.fields.specs.declared.table.Table.{Table}
 
 module _ {X : Type 0} (t : List X) (n : ℕ) where
   pub listed-none : Listed [] t n t n
@@ -25,6 +27,17 @@ listed_then ks js t u v n m r p q =
     record {
       count = rw length-append (omega (arith, p.count, q.count));
       kept = q.kept ∙ rw (p.kept, p.count) (sets-append ks js t n);
+    }
+
+-- the same of a lent table with its count
+pub lists-none : {X : Type 0} (t : Table X) → Lists [] t t
+lists-none t = record { listed = listed-none t.items.now t.count; same = refl }
+
+pub lists_then : {X : Type 0} {ks js : List X} {t u v : Table X} → Lists ks t u → Lists js u v → Lists (ks ++ js) t v
+lists_then {ks = ks} {js = js} {t = t} {u = u} {v = v} p q =
+    record {
+      listed = listed_then ks js t.items.now u.items.now v.items.now t.count u.count v.count p.listed q.listed;
+      same = q.same ∙ p.same;
     }
 
 -- a table stays as long as it was

@@ -60,7 +60,8 @@ pub fn tag_of(s: &[u8]) -> u8
     0
 }
 
-// The text of the field at the front of s: no bytes where it has parts or is not whole.
+// The text of the field at the front of s: no bytes where it has parts or is not whole. So the rules define it, and an Option would
+// only be taken apart again.
 pub fn text_of(s: &[u8]) -> &[u8]
     ensures reads { result.now ≡ text (front s.now) }
     ensures shows { result.now ≡ take (length (text (front s.now))) (drop 3 s.now) }
@@ -71,7 +72,8 @@ pub fn text_of(s: &[u8]) -> &[u8]
     &s[..0]
 }
 
-// The parts of the field at the front of s: no bytes where it has a text or is not whole.
+// The parts of the field at the front of s: no bytes where it has a text or is not whole. It reads like text_of and promises
+// something else, a row of fields: one function of both would promise it with a Bool, and be no plainer.
 pub fn parts_of(s: &[u8]) -> &[u8]
     ensures reads { fields result.now ≡ parts (front s.now) }
     ensures shows { result.now ≡ take (sizes (parts (front s.now))) (drop 3 s.now) }

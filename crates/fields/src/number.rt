@@ -22,5 +22,6 @@ pub fn text_number(s: &[u8], base: usize) -> usize
 pub fn short_number(s: &[u8]) -> u16
     ensures { result ≡ short_number s.now }
 {
+    // By `as`: what is left has two bytes, and try_from would have an error that cannot be.
     (text_number(keep(s, 32), 1640531527) / 65536) as u16
 }

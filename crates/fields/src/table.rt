@@ -1,4 +1,5 @@
-// A table that a caller lends, and how many items are listed in it.
+// A table that a caller lends, and how many items are listed in it. The count goes on where there is no room, since questions 10 and 11
+// speak of how many there are: neither a slice nor an ArrayVec would tell that.
 ghost use Rattle.std.specs.Prelude.{◌≡◌, [], ◌∷◌, ◌+◌, ◌^◌, ◌<◌, take};
 ghost use Rattle.fields.specs.Lists.{Lists};
 
@@ -26,8 +27,7 @@ impl<'a, T: Copy> Table<'a, T> {
     // Lists one more. What has no room is counted all the same.
     pub fn note(&mut self, item: T)
         requires { self.old.count + 1 < 2 ^ 64 }
-        ensures same_reference { self.new.items.ghost_name ≡ self.old.items.ghost_name }
-        ensures lists { Lists (item ∷ []) self.old self.new }
+        ensures { Lists (item ∷ []) self.old self.new }
     {
         let at = self.count;
         let items = &mut *self.items;

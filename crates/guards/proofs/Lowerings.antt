@@ -188,4 +188,4 @@ module _ (amount : Field) (file : List ℕ) (place : ℕ) (s : Row) (e : s.rest.
     pub parts-listed : fields x.rest.now ≡ parts (front f.part.now) →
         (u : Table Named) → Lists (lowerings_in amount all.place (fields all.rest.now)) none u → Listed (lowering_numbers amount (placed_at file place)) t 0 u.items.now u.count
     unfolding lowering_numbers
-    parts-listed l u p = rw (← e, ← h.part, ← l) (rw (g, y, h.place, k, i, z) at p)
+    parts-listed l u p = rw (← e, ← h.part, ← l) (rw (g, y, h.place, k, i, z) at p.listed)

@@ -38,10 +38,7 @@ pub fn contains_inflow(entry: &[u8], amount: &[u8], scratch: &mut [u16]) -> bool
     requires room { length amount.now ≤ 3 * length scratch.old }
     ensures { result ≡ contains_inflow (front entry.now) (front amount.now) }
 {
-    let mut named = [Named {
-        number: 0,
-        place: 0,
-    }; ASSETS];
+    let mut named = [Named::default(); ASSETS];
     let assets = list_assets(entry, &mut named);
     if has_listed_asset(entry, &assets, &[]) {
         return is_expression(tag_of(amount));

@@ -28,7 +28,7 @@ fn sides(s: &[u8]) -> Option<(&[u8], &[u8])>
     }
 }
 
-// The r of the guard at the front of s; no bytes of any other expression.
+// The r of the guard at the front of s; no bytes of any other expression, as the rules define it.
 pub fn guarded_field(s: &[u8]) -> &[u8]
     ensures { result.now ≡ guarded_field (front s.now) }
 {
@@ -38,7 +38,8 @@ pub fn guarded_field(s: &[u8]) -> &[u8]
     }
 }
 
-// Its amount, peeled; no field of any other expression.
+// Its amount, peeled; no field of any other expression. It is the other side, and not its name: one function would answer both, and read
+// a name for each amount that is compared.
 pub fn guarded_amount(s: &[u8]) -> &[u8]
     ensures { front result.now ≡ guarded_amount (front s.now) }
 {

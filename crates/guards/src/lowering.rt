@@ -33,7 +33,8 @@ pub fn contains_wrapping(s: &[u8]) -> bool
     1 <= list_expression(s, WRAPPING, &mut table).count
 }
 
-// What the statement at the front of s lowers the state field of that name by; no field where it does not.
+// What the statement at the front of s lowers the state field of that name by; no field where it does not, as the rules define it: no
+// amount equals it.
 #[tactic(auto, unfolding(crate::specs::Guards::lowered_by))]
 pub fn lowered_by<'a>(name: &[u8], s: &'a [u8]) -> &'a [u8]
     ensures { front result.now ≡ lowered_by name.now (front s.now) }
@@ -79,6 +80,7 @@ fn list_lowering(amount: &[u8], field: &Field, lowerings: &mut Table<Named>)
     if is_lowering(amount, field.part) {
         lowerings.note(Named {
             number: short_number(target(field.part)),
+            // By `as`: the place is small by the contract, and try_from would have an error that cannot be.
             place: field.place as u16,
         });
     }
@@ -92,7 +94,8 @@ pub fn list_lowerings<'t>(
     table: &'t mut [Named],
 ) -> Table<'t, Named>
     requires { length file.now ≤ 32768 }
-    ensures { Listed (lowering_numbers (front amount.now) (placed_at file.now place)) table.old 0 result.items.now result.count }
+    ensures same_reference { result.items.ghost_name ≡ table.entry.ghost_name }
+    ensures listed { Listed (lowering_numbers (front amount.now) (placed_at file.now place)) table.old 0 result.items.now result.count }
 {
     let mut lowerings = empty_table(table);
     if let Some(entry) = fields_at(skip(file, place), place).next() {
@@ -103,7 +106,8 @@ pub fn list_lowerings<'t>(
     lowerings
 }
 
-// Whether what is listed assigns to the name, whose number is given. A name is read only where the number is equal.
+// Whether what is listed assigns to the name, whose number is given. A name is read only where the number is equal (of other names listed so,
+// see is_named of crates/walking).
 #[tactic(auto, unfolding(crate::specs::Lowerings::lowers_at))]
 fn has_target(file: &[u8], lowering: &Named, number: u16, name: &[u8]) -> bool
     requires { number ≡ short_number name.now }

@@ -21,6 +21,7 @@ pub fn write_number(number: usize, output: &mut Output)
     ensures { Writes (decimal number) output.old output.new }
 {
     if number < 10 {
+        // By `as`: one digit, of which try_from would have an error that cannot be.
         output.write_byte(b'0' + number as u8);
         return;
     }

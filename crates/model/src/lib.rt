@@ -28,7 +28,8 @@ pub fn name_of(s: &[u8]) -> &[u8]
 }
 
 // Whether the state field, entry or parameter at the front of s has this name. It would stand behind two heads, and most fields have
-// another there: that takes less time than to read the name.
+// another there: that takes less time than to read the name. It is asked of each field, and so it is compiled into the loops.
+#[inline(always)]
 pub fn is_named(s: &[u8], name: &[u8]) -> bool
     ensures { result ≡ same_bytes name.now (name_of (front s.now)) }
 {
@@ -44,7 +45,8 @@ pub fn has_state(s: &[u8], name: &[u8]) -> bool
         .any(|field| is_named(field.part, name))
 }
 
-// The n-th of a row's fields whose tags are from low to high.
+// The n-th of a row's fields whose tags are from low to high: two numbers as in is_between, since a range of the library is handed on by
+// value and would be made for each field.
 fn nth_from(row: Fields, low: u8, high: u8, n: usize) -> Option<Field>
     ensures { option_map shown result ≡ slice_get (filter (λ p. between low high (tag p.this)) (left row.entry)) n }
 {

@@ -64,6 +64,7 @@ fn note_number(number: usize, table: &mut [u8]) -> bool
         return true;
     }
     let i = number / NUMBERS_OF_A_PLACE % table.len();
+    // By `as`: a remainder of seven bits, of which try_from would have an error that cannot be.
     let note = (number / NUMBERS_OF_A_NOTE % 128) as u8 + 1;
     let held = table[i];
     table[i] = joined_note(held, note);

@@ -22,6 +22,7 @@ pub enum Question {
 impl From<Question> for u8 {
     ghost from_gives = { λ question number. number ≡ number_of question };
 
+    // By `as`, which reads the discriminant; Rust has no other way.
     fn from(question: Question) -> u8 {
         question as u8
     }

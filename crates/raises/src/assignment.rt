@@ -10,7 +10,9 @@ use tags::{SET, is_assign};
 use walking::peel::peel;
 use walking::shape::ident;
 
-// Whether the statement at the front of s sets, adds to or subtracts from the state field of that name.
+// Whether the statement at the front of s sets, adds to or subtracts from the state field of that name. It is asked of each statement, and
+// so it is compiled into the loops.
+#[inline(always)]
 #[tactic(auto, unfolding(crate::specs::Raises::assigns))]
 pub fn assigns(name: &[u8], s: &[u8]) -> bool
     ensures { result ≡ assigns name.now (front s.now) }

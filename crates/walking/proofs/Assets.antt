@@ -21,7 +21,7 @@ use Rattle.fields.specs.declared.named.Named.{Named}
 use Rattle.fields.specs.declared.table.Table.{Table}
 use Rattle.fields.proofs.Gathering.{Gathers}
 use Rattle.fields.proofs.Places.{size-least}
-use Rattle.fields.proofs.Tables.{listed-none, listed-front, listed-long}
+use Rattle.fields.proofs.Tables.{lists-none, listed-front, listed-long}
 use Rattle.fields.proofs.Inside.{Stands, parts-stand}
 use Rattle.model.specs.Model.{name_of, params}
 use Rattle.walking.specs.Walking.{is_asset_parameter, asset_params, without_places}
@@ -52,12 +52,12 @@ any-asset s name x e = rw (entry-assets (front s), any-map name_of (same_bytes n
 module _ (f : Found) (t : Table Named) (g : ℕ) (e : g ≡ tag (front f.part.now)) where
   pub other-tag : (g ≡ Parameter → ⊥) → Lists (named_parameter (shown f)) t t
   unfolding named_parameter
-  other-tag n = rw (← e, ne_eqb g Parameter n) (listed-none t.items.now t.count)
+  other-tag n = rw (← e, ne_eqb g Parameter n) (lists-none t)
 
   module _ (p : g ≡ Parameter) (b : Bool) (o : b ≡ is_asset_parameter (front f.part.now)) where
     pub other-type : b ≡ false → Lists (named_parameter (shown f)) t t
     unfolding named_parameter
-    other-type h = rw (← e, eq-eqb g Parameter p, ← o, h) (listed-none t.items.now t.count)
+    other-type h = rw (← e, eq-eqb g Parameter p, ← o, h) (lists-none t)
 
     pub asset-listed : b ≡ true → (x : List ℕ) → x ≡ name_of (front f.part.now) → (k : ℕ) → k ≡ short_number x →
         (u : Table Named) → Lists (record { number = k; place = f.place } ∷ []) t u → Lists (named_parameter (shown f)) t u
@@ -95,7 +95,7 @@ module _ (all x : Iterator) (g : all ≡ x) (y s : List ℕ) (r : x.rest.now ≡
   pub entry-listed : fields y ≡ parts (front s) → (t : List Named) (none u : Table Named) → none.items.now ≡ t → none.count ≡ 0 →
       Lists (flat_map named_parameter (placed all.place (fields all.rest.now))) none u → Listed (named_assets (front s)) t 0 u.items.now u.count
   unfolding named_assets
-  entry-listed e t none u i j p = rw (← e) (rw (g, r, z, i, j) at p)
+  entry-listed e t none u i j p = rw (← e) (rw (g, r, z, i, j) at p.listed)
 
 -- where there is room for all, the table holds them in front
 pub assets-listed : (s x : List ℕ) (t : List Named) (u : Table Named) → x ≡ s → Listed (named_assets (front x)) t 0 u.items.now u.count → Assets s u

@@ -15,7 +15,7 @@ use Rattle.fields.specs.Table.{Listed}
 use Rattle.fields.proofs.Reading.{front-none, fields-end}
 use Rattle.fields.proofs.Places.{is-zero, parts-shorter}
 use Rattle.fields.proofs.Gathering.{Gathers}
-use Rattle.fields.proofs.Tables.{listed-none, listed_then}
+use Rattle.fields.proofs.Tables.{listed-none, lists-none, lists_then}
 use Rattle.walking.specs.Walking.{walk, walk_parts, stmt_exprs, body_exprs}
 use Rattle.walking.specs.Table.{placed_at, places_of}
 use Rattle.walking.proofs.Within.{walk-within, statement-within}
@@ -30,26 +30,26 @@ walk_step n (field t x ps) = refl
 module _ (f : Found) (wanted : ℕ) (t : Table ℕ) (g : ℕ) (e : g ≡ tag (front f.part.now)) (v : Bool) where
   module _ (c : v ≡ is_expression g) where
     pub no-expression : v ≡ false → Lists (places_of wanted (walk f.place (front f.part.now))) t t
-    no-expression h = rw (walk_step f.place (front f.part.now), ← e, ← c, h) (listed-none t.items.now t.count)
+    no-expression h = rw (walk_step f.place (front f.part.now), ← e, ← c, h) (lists-none t)
 
     pub expression-parts : v ≡ true → (u : Table ℕ) → Lists (cond (eqb (tag (front f.part.now)) wanted) (f.place % 65536 ∷ []) []) t u →
         (x : Fields) → x.place ≡ f.place + 3 → fields x.rest.now ≡ parts (front f.part.now) →
         (z : Table ℕ) → Lists (places_of wanted (walk_parts x.place (fields x.rest.now))) u z → Lists (places_of wanted (walk f.place (front f.part.now))) t z
     expression-parts h u p x l m z q =
         rw (walk_step f.place (front f.part.now), ← e, ← c, h, places-cons wanted (shown f) (walk_parts (f.place + 3) (parts (front f.part.now))), ← l, ← m)
-        (listed_then _ _ t.items.now u.items.now z.items.now t.count u.count z.count p q)
+        (lists_then p q)
 
     pub expression-alone : v ≡ true → (u : Table ℕ) → Lists (cond (eqb (tag (front f.part.now)) wanted) (f.place % 65536 ∷ []) []) t u →
         (x : Fields) → x.place ≡ f.place + 3 → fields x.rest.now ≡ parts (front f.part.now) → (b : Bool) → b ≡ eqb (length x.rest.now) 0 → b ≡ true →
         Lists (places_of wanted (walk f.place (front f.part.now))) t u
     unfolding walk_parts
     expression-alone h u p x l m b z n =
-        expression-parts h u p x l m u (rw (no-elements x.rest.now (is-zero _ b z n), fields-end [] refl) (listed-none u.items.now u.count))
+        expression-parts h u p x l m u (rw (no-elements x.rest.now (is-zero _ b z n), fields-end [] refl) (lists-none u))
 
   module _ (c : v ≡ is_statement g) where
     pub no-statement : v ≡ false → Lists (places_of wanted (stmt_exprs (shown f))) t t
     unfolding stmt_exprs
-    no-statement h = rw (← e, ← c, h) (listed-none t.items.now t.count)
+    no-statement h = rw (← e, ← c, h) (lists-none t)
 
     pub statement-parts : v ≡ true → (x : Fields) → x.place ≡ f.place + 3 → fields x.rest.now ≡ parts (front f.part.now) →
         (z : Table ℕ) → Lists (places_of wanted (walk_parts x.place (fields x.rest.now))) t z → Lists (places_of wanted (stmt_exprs (shown f))) t z
@@ -63,7 +63,7 @@ pub noted-room : (f : Found) (x : Fields) → x.rest.now ≡ take (sizes (parts 
     3 * u.count + length x.rest.now < 3 * 2 ^ 64
 noted-room f x e t room hit k u p =
     let l = chosen (λ ks. length ks ≤ 1) hit {a = k ∷ []} {b = []} (omega arith) (omega arith) in
-    omega (arith, parts-shorter f.part.now f.there x.rest.now e, p.count)
+    omega (arith, parts-shorter f.part.now f.there x.rest.now e, p.listed.count)
 
 -- Along a row of fields
 
@@ -96,7 +96,7 @@ module _ (wanted : ℕ) (t : List ℕ) (none : Table ℕ) (e : none.items.now �
 
   pub front-walked : (s : List ℕ) → it.rest.now ≡ s → it.place ≡ 0 → (f : Found) (b : Fields) → Step it f b →
       (u : Table ℕ) → Lists (places_of wanted (walk f.place (front f.part.now))) none u → Listed (places_of wanted (walk 0 (front s))) t 0 u.items.now u.count
-  front-walked s r k f b h u p = rw (← r, ← h.part) (rw (h.place, k, e, z) at p)
+  front-walked s r k f b h u p = rw (← r, ← h.part) (rw (h.place, k, e, z) at p.listed)
 
   module _ (file : List ℕ) (place : ℕ) (r : it.rest.now ≡ drop place file) where
     pub nothing-in-body : whole it.rest.now ≡ false → Listed (places_of wanted (body_exprs (placed_at file place))) t 0 none.items.now none.count
@@ -107,4 +107,4 @@ module _ (wanted : ℕ) (t : List ℕ) (none : Table ℕ) (e : none.items.now �
         (u : Table ℕ) → Lists (places_of wanted (flat_map stmt_exprs (placed x.place (fields x.rest.now)))) none u →
         Listed (places_of wanted (body_exprs (placed_at file place))) t 0 u.items.now u.count
     unfolding body_exprs
-    body-walked k f b h x l m u p = rw (← r, ← h.part, ← m) (rw (l, h.place, k, e, z) at p)
+    body-walked k f b h x l m u p = rw (← r, ← h.part, ← m) (rw (l, h.place, k, e, z) at p.listed)

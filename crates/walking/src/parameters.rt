@@ -55,6 +55,7 @@ fn list_asset(field: &Field, assets: &mut Table<Named>)
     }
     assets.note(Named {
         number: short_number(name_of(field.part)),
+        // By `as`: the place is small by the contract, and try_from would have an error that cannot be.
         place: field.place as u16,
     });
 }
@@ -62,7 +63,8 @@ fn list_asset(field: &Field, assets: &mut Table<Named>)
 // Lists the asset parameters of the entry at the front of s, as far as the table has room.
 pub fn list_assets<'t>(s: &[u8], table: &'t mut [Named]) -> Table<'t, Named>
     requires { length s.now ≤ 32768 }
-    ensures { Listed (named_assets (front s.now)) table.old 0 result.items.now result.count }
+    ensures same_reference { result.items.ghost_name ≡ table.entry.ghost_name }
+    ensures listed { Listed (named_assets (front s.now)) table.old 0 result.items.now result.count }
 {
     let mut assets = empty_table(table);
     for field in fields_at(parts_of(s), 3) {
@@ -71,8 +73,9 @@ pub fn list_assets<'t>(s: &[u8], table: &'t mut [Named]) -> Table<'t, Named>
     assets
 }
 
-// Whether one of the asset parameters of the entry at the front of s has that name, where these are all. A name is read only where
-// its number is equal.
+// Whether what is listed of an asset parameter of the entry at the front of s has that name. A name is read only where its number is
+// equal. What else is listed by such numbers, funded maps and lowerings, has its name elsewhere: one function of all would be handed how to
+// read it, and be no shorter.
 fn is_named(s: &[u8], asset: &Named, number: u16, name: &[u8]) -> bool
     requires { number ≡ short_number name.now }
     ensures { result ≡ named_by s.now name.now asset.now }

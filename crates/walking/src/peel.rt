@@ -9,7 +9,8 @@ use fields::front::{is_whole, parts_of, tag_of};
 use tags::is_wrapper;
 
 // The place in s of the first field, from the one at its front inwards, that is neither Checked nor Wrapping.
-// What stands behind a wrapper is not inside it: where a wrapper holds no whole field, the place is the end of s.
+// What stands behind a wrapper is not inside it: where a wrapper holds no whole field, the place is the end of s. The rules ask for
+// this form of it: a loop that breaks with the place.
 pub fn peel_place(s: &[u8]) -> usize
     ensures reads { front (drop result s.now) ≡ peel (front s.now) }
     ensures stands { result ≡ peel_place (length s.now) 0 (front s.now) }

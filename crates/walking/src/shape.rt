@@ -15,7 +15,8 @@ pub fn is_present(s: &[u8]) -> bool
     1 <= tag_of(s)
 }
 
-// The name of the identifier at the front of s; no bytes of anything else.
+// The name of the identifier at the front of s; no bytes of anything else, as the rules define it: no identifier has a name without
+// bytes, so names are compared without asking whether there is one.
 pub fn ident(s: &[u8]) -> &[u8]
     ensures reads { result.now ≡ ident (front s.now) }
     ensures shows { result.now ≡ take (length (ident (front s.now))) (drop 3 s.now) }
@@ -26,7 +27,7 @@ pub fn ident(s: &[u8]) -> &[u8]
     &s[..0]
 }
 
-// The name of the member that the call at the front of s calls; no bytes where it calls none.
+// The name of the member that the call at the front of s calls; no bytes where it calls none, as the rules define it.
 pub fn method(s: &[u8]) -> &[u8]
     ensures { result.now ≡ method (front s.now) }
 {

@@ -1,7 +1,7 @@
 // The walk: the places of the expressions of one tag, in walk order, in a table that the caller lends. An expression
 // visits its list of parts, and the list, gone through by a loop, visits expressions: the stack grows with the nesting
 // of a file and not with the length of its lists.
-ghost use Rattle.std.specs.Prelude.{◌+◌, ◌*◌, ◌^◌, ◌<◌, ◌%◌, cond, eqb, [], ◌∷◌, length};
+ghost use Rattle.std.specs.Prelude.{◌≡◌, ◌+◌, ◌*◌, ◌^◌, ◌<◌, ◌%◌, cond, eqb, [], ◌∷◌, length};
 ghost use mathlib.Core.List.{flat_map};
 ghost use Rattle.fields.specs.Field.{fields, front, tag as tag_of, placed};
 ghost use Rattle.fields.specs.Row.{shown};
@@ -26,6 +26,7 @@ fn note_place(field: &Field, tag: u8, places: &mut Table<u16>)
     ensures { Lists (cond (eqb (tag_of (front field.now.part.now)) tag) (field.now.place % 65536 ∷ []) []) places.old places.new }
 {
     if field.tag() == tag {
+        // By `as`: a remainder of two bytes, of which try_from would have an error that cannot be.
         places.note((field.place % 65536) as u16);
     }
 }
@@ -67,7 +68,8 @@ fn visit_statement(field: Field, tag: u8, places: &mut Table<u16>)
     }
 }
 
-// The same of the statements among fields in a row.
+// The same of the statements among fields in a row. It reads like visit_parts, which is within the recursion: one function of both
+// would be handed what to do with each, and that would call it again.
 fn visit_statements(parts: Fields, tag: u8, places: &mut Table<u16>)
     requires { 3 * places.old.count + length parts.rest.now < 3 * 2 ^ 64 }
     ensures { Lists (places_of tag (flat_map stmt_exprs (placed parts.entry.place (fields parts.entry.rest.now)))) places.old places.new }
@@ -79,7 +81,8 @@ fn visit_statements(parts: Fields, tag: u8, places: &mut Table<u16>)
 
 // Lists the places, in s, of the expressions of a tag in the one at the front of s.
 pub fn list_expression<'t>(s: &[u8], tag: u8, table: &'t mut [u16]) -> Table<'t, u16>
-    ensures { Listed (places_of tag (walk 0 (front s.now))) table.old 0 result.items.now result.count }
+    ensures same_reference { result.items.ghost_name ≡ table.entry.ghost_name }
+    ensures listed { Listed (places_of tag (walk 0 (front s.now))) table.old 0 result.items.now result.count }
 {
     let mut places = empty_table(table);
     if let Some(field) = fields_at(s, 0).next() {
@@ -90,7 +93,8 @@ pub fn list_expression<'t>(s: &[u8], tag: u8, table: &'t mut [u16]) -> Table<'t,
 
 // Lists the places, in the file, of the expressions of a tag in the body of the entry that stands at a place of it.
 pub fn list_body<'t>(file: &[u8], place: usize, tag: u8, table: &'t mut [u16]) -> Table<'t, u16>
-    ensures { Listed (places_of tag (body_exprs (placed_at file.now place))) table.old 0 result.items.now result.count }
+    ensures same_reference { result.items.ghost_name ≡ table.entry.ghost_name }
+    ensures listed { Listed (places_of tag (body_exprs (placed_at file.now place))) table.old 0 result.items.now result.count }
 {
     let mut places = empty_table(table);
     if let Some(entry) = fields_at(skip(file, place), place).next() {

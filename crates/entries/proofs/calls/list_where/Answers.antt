@@ -11,7 +11,7 @@ loop-call-preserved g c =
       | then-test w ↦
           rw w.places-is
           (choosing-listed _ _ _ _ _ _ next c.loop-call-test.true _ c.from.ensures _ c.skip.ensures _ (λ passes says. says _ _ c.test.ensures)
-          w.if-test.true _ w.note.ensures.same_reference w.note.ensures.lists)
+          w.if-test.true _ w.note.ensures)
       | else-test w ↦
           rw w.places-is
           (choosing-passed _ _ _ _ _ _ next c.loop-call-test.true _ c.from.ensures _ c.skip.ensures _ (λ passes says. says _ _ c.test.ensures) w.if-test.false)

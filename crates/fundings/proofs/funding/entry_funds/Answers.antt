@@ -13,4 +13,4 @@ unfolding field_at
 returns c =
     any_from_yields_List (field_at (is_funding c.args.map.now (front c.args.s.now)) c.args.s.now) c.any.new.self _ c.any.result c.any.ensures.ran
     (YieldsList-from_slice c.listed.result.now (search rules)) (λ x b q k. search rules)
-    ∙ funding-any c.args.s.now c.args.map.now c.requires _ _ _ c.list_body-calls.ensures (search rules) _ c.listed.ensures
+    ∙ funding-any c.args.s.now c.args.map.now c.requires _ _ _ c.list_body-calls.ensures.listed (search rules) _ c.listed.ensures

@@ -12,6 +12,6 @@ pub returns : goal.returns
 returns c =
     on_ok_weaker c.list_calls.result
     (joins-all c.args.file.now c.args.place c.requires.standing c.args.maps.now.items _ c.list_body-calls.result.items.now
-    c.list_body-calls.result.count c.list_body-calls.ensures (room-lent _ _ _ _ _ c.list_body-calls.ensures (search rules)) _ c.listed.ensures
+    c.list_body-calls.result.count c.list_body-calls.ensures.listed (room-lent _ _ _ _ _ c.list_body-calls.ensures.listed (search rules)) _ c.listed.ensures
     _ c.tokens_number.ensures.reads c.list_calls.new.maps.items)
     c.list_calls.ensures

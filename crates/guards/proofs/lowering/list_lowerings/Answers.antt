@@ -9,15 +9,15 @@ pub loop-part-preserved : goal.loop-part-preserved
 loop-part-preserved c =
     gathering-on (lowerings (front c.args.amount.now)) _ _ _ _ c.loop-part.invariant _ _ c.in-Some-part.ensures.steps _ c.list_lowering.ensures
 
-pub returns-in-None : goal.returns-in-None
-returns-in-None c =
+pub returns-in-None-clause-listed : goal.returns-in-None-clause-listed
+returns-in-None-clause-listed c =
     parts-listed (front c.args.amount.now) c.args.file.now c.args.place c.fields_at.result (c.fields_at.ensures.rest ∙ c.skip.ensures)
     c.args.table.now c.empty_table-lowerings.result c.empty_table-lowerings.ensures.items c.empty_table-lowerings.ensures.none
     c.fields_at.ensures.place _ _ c.in-Some.ensures.steps _ _ c.into_iter-part-iterator.ensures.into_iter_gives c.parts-part-items.ensures.place
     c.parts-part-items.ensures.reads c.loop-part.lowerings
     (gathering-done (lowerings (front c.args.amount.now)) _ _ _ _ c.loop-part.invariant c.in-None.ensures.steps)
 
-pub returns-in_default : goal.returns-in_default
-returns-in_default c =
+pub returns-in_default-clause-listed : goal.returns-in_default-clause-listed
+returns-in_default-clause-listed c =
     no-entry (front c.args.amount.now) c.args.file.now c.args.place c.fields_at.result (c.fields_at.ensures.rest ∙ c.skip.ensures)
     c.args.table.now c.empty_table-lowerings.result c.empty_table-lowerings.ensures.items c.empty_table-lowerings.ensures.none c.in_default.ensures.steps

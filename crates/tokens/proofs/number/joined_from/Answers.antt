@@ -20,7 +20,7 @@ loop-mark-init c = search joining-all
 pub search-preserved : goal.search-preserved
 search-preserved c =
     searching-on _ _ _ _ _ _ _ c.search.invariant _ _ c.in-Some.ensures.steps _ c.tag.ensures _ c.is_between.ensures c.if-not-is_between.false
-    _ c.skip-entry.ensures c.requires.standing.short _ (search rules) _ _ c.list_conditions-conditions.ensures _ c.listed-mark-items.ensures
+    _ c.skip-entry.ensures c.requires.standing.short _ (search rules) _ _ c.list_conditions-conditions.ensures.listed _ c.listed-mark-items.ensures
     _ (joining-done _ _ _ _ _ _ _ c.loop-mark.invariant c.loop-mark-test.false)
 
 pub loop-mark-preserved : goal.loop-mark-preserved
@@ -34,4 +34,4 @@ returns-then-found-eq1 c =
     let several = joining-several _ _ _ _ _ _ _ c.loop-mark.invariant c.loop-mark-test.true _ (search rules) _ c.condition_number.ensures _ c.join-found.ensures c.if-found-eq1.true in
     c.if-found-eq1.true
     ∙ searching-several _ _ _ _ _ _ _ c.search.invariant _ _ c.in-Some.ensures.steps _ c.tag.ensures _ c.is_between.ensures c.if-not-is_between.false
-    _ c.skip-entry.ensures c.requires.standing.short _ (search rules) _ _ c.list_conditions-conditions.ensures _ c.listed-mark-items.ensures several
+    _ c.skip-entry.ensures c.requires.standing.short _ (search rules) _ _ c.list_conditions-conditions.ensures.listed _ c.listed-mark-items.ensures several

@@ -21,8 +21,8 @@ list_asset-requires-clause-room c =
 pub loop-field-preserved : goal.loop-field-preserved
 loop-field-preserved c = gathering-on assets _ _ _ _ c.loop-field.invariant _ _ c.in-Some.ensures.steps _ c.list_asset.ensures
 
-pub returns : goal.returns
-returns c =
+pub returns-clause-listed : goal.returns-clause-listed
+returns-clause-listed c =
     entry-listed _ _ c.into_iter-field-iterator.ensures.into_iter_gives _ c.args.s.now c.fields_at-field-items.ensures.rest c.fields_at-field-items.ensures.place
     _ c.parts_of.ensures.shows c.requires c.parts_of.ensures.reads c.args.table.now c.empty_table-assets.result c.loop-field.assets
     c.empty_table-assets.ensures.items c.empty_table-assets.ensures.none (gathering-done assets _ _ _ _ c.loop-field.invariant c.in-None.ensures.steps)
