@@ -37,7 +37,7 @@ module _ {X : Type 0} {one : ℕ → Field → List X} {many : ℕ → Tree → 
   gathering-done w =
       record {
         listed =
-          i.left last.items.now last.count (rw (fields-end rest.rest.now w, by.none rest.place rest.rest.now) (listed-none last.items.now last.count));
+            i.left last.items.now last.count (rw (fields-end rest.rest.now w, by.none rest.place rest.rest.now) (listed-none last.items.now last.count));
         same = i.same;
       }
 
