@@ -89,11 +89,14 @@ module _ (file : List ℕ) (place : ℕ) (calls : List ℕ) (c : CallsOf file pl
             inside = c.inside;
             many = where-counted file place calls c is_payout payout-call (replicate 65 0) paid.items.now paid.count p ∙ ap length (payouts-where (placed_at file place));
             last = λ h. rw e (where-place file place calls c is_payout payout-call (replicate 65 0) paid.items.now paid.count p 64 (omega (arith, wide 65)) h);
-            paid = λ h. rw e (where-read file place calls c is_payout payout-call (replicate 65 0) paid.items.now paid.count p (omega (arith, wide 65, h)) ∙ payouts-where (placed_at file place));
+            paid = λ h. rw e
+                (where-read file place calls c is_payout payout-call (replicate 65 0) paid.items.now paid.count p (omega (arith, wide 65, h))
+                ∙ payouts-where (placed_at file place));
             counted = where-counted file place calls c is_debit debit-call (replicate 64 0) debits.items.now debits.count l ∙ ap length (debits-where (placed_at file place));
             all = parameters-counted;
             listed = λ h. rw (f, front-stays file place debits.items.now debits.count backed.items.now backed.count q.listed (room h))
-                (where-read file place calls c is_debit debit-call (replicate 64 0) debits.items.now debits.count l (omega (arith, wide 64, h, parameters-counted)) ∙ debits-where (placed_at file place));
+                (where-read file place calls c is_debit debit-call (replicate 64 0) debits.items.now debits.count l (omega (arith, wide 64, h, parameters-counted))
+                ∙ debits-where (placed_at file place));
             named = λ h i g. rw f (name-there file place debits.items.now debits.count backed.items.now backed.count q.listed (room h) i (omega (arith, g, parameters-counted)));
           }
 

@@ -29,7 +29,8 @@ unfolding first
 first-part g row t l None w = sym (nth-first (parts (this_of g)) (g.place + 3) ∙ ap first (sym l) ∙ ap first (placed-end row.rest.now w row.place))
 first-part g row t l (Some p) w = sym (nth-first (parts (this_of g)) (g.place + 3) ∙ ap first (sym l) ∙ ap first (left-next row p t w))
 
-module _ (low high n : ℕ) (s file : List ℕ) (e : s ≡ file) (k : ℕ) (r : Option Found) (q : option_map found r ≡ slice_get (filter (λ p. between low high (tag p.this)) (placed k (fields s))) n) where
+module _ (low high n : ℕ) (s file : List ℕ) (e : s ≡ file) (k : ℕ) (r : Option Found)
+    (q : option_map found r ≡ slice_get (filter (λ p. between low high (tag p.this)) (placed k (fields s))) n) where
   -- with its place
   pub found-nth : k ≡ 0 → option_map found r ≡ slice_get (placed_from low high 0 (fields file)) n
   unfolding placed_from

@@ -126,9 +126,13 @@ unfolding flat_map named_parameter
 among-placed s name [] e = refl
 among-placed s name (p ∷ ps) e = go (eqb (tag p.this) Parameter) (is_asset_parameter p.this) refl (among-placed s name ps e.1)
   where
-    go : (i k : Bool) → is_asset_parameter p.this ≡ k → any (named_by s name) (flat_map named_parameter ps) ≡ any (same_bytes name) (map name_of (assets_in (without_places ps))) →
+    others : List Field
+    others = filter (λ f. eqb (tag f) Parameter) (without_places ps)
+
+    go : (i k : Bool) → is_asset_parameter p.this ≡ k →
+        any (named_by s name) (flat_map named_parameter ps) ≡ any (same_bytes name) (map name_of (assets_in (without_places ps))) →
         any (named_by s name) (cond (i && k) (record { number = short_number (name_of p.this); place = p.place } ∷ []) [] ++ flat_map named_parameter ps)
-        ≡ any (same_bytes name) (map name_of (filter is_asset_parameter (cond i (p.this ∷ filter (λ f. eqb (tag f) Parameter) (without_places ps)) (filter (λ f. eqb (tag f) Parameter) (without_places ps)))))
+        ≡ any (same_bytes name) (map name_of (filter is_asset_parameter (cond i (p.this ∷ others) others)))
     go true true h r = rw (h, numbered s name p e.0, r)
     go true false h r = rw h r
     go false k h r = r

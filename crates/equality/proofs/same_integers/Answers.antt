@@ -10,6 +10,8 @@ pub returns : goal.returns
 unfolding strip
 returns c =
     same-items c.filter-2.result _ c.eq.ensures.ran
-    (YieldsList-from_filter _ (λ b. not (is_underscore b)) (YieldsList-at c.filter.ensures.source (YieldsList-from_slice c.args.a.now cc)) c.filter.ensures.closure (λ x b q k. search (rules, tests)))
-    (YieldsList-from_filter _ (λ b. not (is_underscore b)) (YieldsList-at c.filter-2.ensures.source (YieldsList-from_slice c.args.b.now cc)) c.filter-2.ensures.closure (λ x b q k. search (rules, tests)))
+    (YieldsList-from_filter _ (λ b. not (is_underscore b)) (YieldsList-at c.filter.ensures.source (YieldsList-from_slice c.args.a.now cc)) c.filter.ensures.closure
+    (λ x b q k. search (rules, tests)))
+    (YieldsList-from_filter _ (λ b. not (is_underscore b)) (YieldsList-at c.filter-2.ensures.source (YieldsList-from_slice c.args.b.now cc)) c.filter-2.ensures.closure
+    (λ x b q k. search (rules, tests)))
     (λ x y. refl)
