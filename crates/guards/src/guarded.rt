@@ -28,25 +28,18 @@ fn sides(s: &[u8]) -> Option<(&[u8], &[u8])>
     }
 }
 
-// The r of the guard at the front of s; no bytes of any other expression, as the rules define it.
+// The r of the guard at the front of s; no bytes of any other expression.
 pub fn guarded_field(s: &[u8]) -> &[u8]
     ensures { result.now ≡ guarded_field (front s.now) }
 {
-    match sides(s) {
-        Some((field, _)) => ident(peel(field)),
-        None => &s[..0],
-    }
+    sides(s).map_or(&[], |(field, _)| ident(peel(field)))
 }
 
-// Its amount, peeled; no field of any other expression. It is the other side, and not its name: one function would answer both, and read
-// a name for each amount that is compared.
+// Its amount, peeled; no field of any other expression.
 pub fn guarded_amount(s: &[u8]) -> &[u8]
     ensures { front result.now ≡ guarded_amount (front s.now) }
 {
-    match sides(s) {
-        Some((_, amount)) => peel(amount),
-        None => &s[..0],
-    }
+    sides(s).map_or(&[], |(_, amount)| peel(amount))
 }
 
 // Whether the guard at the front of s bounds the amount.

@@ -1,7 +1,11 @@
 -- No field stands where no byte does.
-use Rattle.std.proofs.Common.{refl, sym, ◌∙◌, []}
+use Rattle.std.proofs.Common.{rules, refl, ◌≡◌, []}
+use Rattle.fields.specs.Field.{front, nothing}
 use Rattle.fields.proofs.Reading.{front-none}
 use Rattle.guards.proofs.guarded.guarded_amount.Goals as goal
 
-pub returns-in-None : goal.returns-in-None
-returns-in-None c = front-none [] refl ∙ sym c.in-None.ensures.amount
+no-amount : front [] ≡ nothing
+no-amount = front-none [] refl
+
+pub returns : goal.returns
+returns c = search (no-amount, rules)
