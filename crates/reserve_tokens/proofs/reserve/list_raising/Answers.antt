@@ -6,7 +6,7 @@ use Rattle.reserve_tokens.proofs.reserve.list_raising.Goals as goal
 
 pub invariant_of-result-clause-called : goal.invariant_of-result-clause-called
 invariant_of-result-clause-called c =
-    calls-front _ _ _ _ _ c.list_body.ensures (room-lent _ _ _ _ _ c.list_body.ensures (search rules))
+    calls-front _ _ _ _ _ c.list_body.ensures.listed (room-lent _ _ _ _ _ c.list_body.ensures.listed (search rules))
 
 pub invariant_of-result-clause-listed : goal.invariant_of-result-clause-listed
 invariant_of-result-clause-listed c = search assets-listed
