@@ -27,7 +27,8 @@ fn is_comparison(tag: u8) -> bool
     matches!(tag, EQ..=GE)
 }
 
-// Lists what an expression gives where it is required.
+// Lists what an expression gives where it is required. That the table's count stays a number of the code is a fact of the table and of
+// what is still to be gone through, which is another field at each call: here and below each says it of its own.
 #[cycle(split_negate)]
 fn split(field: Field, conditions: &mut Table<u16>)
     requires { 3 * conditions.old.count + length field.part.now < 3 * 2 ^ 64 }

@@ -1,4 +1,5 @@
-// The field at the front of a part of the file. An expression is handed on as the part of the file that starts with it.
+// The field at the front of a part of the file. An expression is handed on as the part of the file that starts with it, and a number beside it
+// says which part of it is read: callers have the two from different places.
 ghost use Rattle.std.specs.Prelude.{◌≡◌, ◌+◌, ◌*◌, ◌<◌, ◌-◌, take, drop, length};
 ghost use Rattle.fields.specs.Field.{tag_of, length_of, whole, content, after, fields, front, tag, text, parts, part, nth, sizes, place_of};
 

@@ -66,7 +66,7 @@ impl<'a> Record<'a> {
     }
 }
 
-// The first records of some bytes.
+// The first records of some bytes. How many there are is no length of the bytes: a record has five or more.
 pub fn first_records(bytes: &[u8], count: usize) -> Records
     ensures rest { result.rest.now ≡ bytes.now }
     ensures count { result.left ≡ count }

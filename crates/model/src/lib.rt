@@ -1,5 +1,6 @@
 // The model that a file carries: state fields by their names, and all by numbers, counted from 0 in file order. An answer is a
-// field with its place: of the file, or of the entry's parts counted from the entry's own place.
+// field with its place: of the file, or of the entry's parts counted from the entry's own place. What is read stands beside the name or the
+// number that is looked for in it: callers have the two from different places.
 #![tactic(auto)]
 
 ghost use Rattle.std.specs.Prelude.{◌≡◌, filter, get_or};

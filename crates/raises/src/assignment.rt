@@ -1,5 +1,5 @@
 // SPDX-License-Identifier: Apache-2.0 OR MIT
-// The statements that set, add to or subtract from a state field.
+// The statements that set, add to or subtract from a state field. The field's name stands beside the statement, which knows nothing of it.
 ghost use Rattle.std.specs.Prelude.{◌≡◌};
 ghost use Rattle.fields.specs.Field.{front};
 ghost use Rattle.raises.specs.Raises.{assigns, value, sets_from};

@@ -31,7 +31,8 @@ fn note_place(field: &Field, tag: u8, places: &mut Table<u16>)
     }
 }
 
-// Lists the expressions in a field, itself before its parts. Most have no parts, and then nothing is called.
+// Lists the expressions in a field, itself before its parts. Most have no parts, and then nothing is called. The tag stays and the table
+// changes, here and below: a struct of both would have to say at each call that the tag is the same.
 #[cycle(visit_expression_visit_parts)]
 fn visit_expression(field: Field, tag: u8, places: &mut Table<u16>)
     requires { 3 * places.old.count + length field.part.now < 3 * 2 ^ 64 }
