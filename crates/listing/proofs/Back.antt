@@ -1,9 +1,9 @@
 -- A record is read back as it was written, since its numbers fit in their two bytes; so the text of a file's records is its listing.
-use Rattle.std.proofs.Common.{ℕ, zero, suc, ◌+◌, ◌*◌, ◌/◌, ◌≤◌, ◌<◌, ◌≡◌, refl, sym, ap, ◌∙◌, List, [], ◌∷◌, ◌++◌, arith}
+use Rattle.std.proofs.Common.{ℕ, zero, suc, ◌+◌, ◌*◌, ◌≤◌, ◌<◌, ◌≡◌, refl, sym, ap, ◌∙◌, List, [], ◌∷◌, ◌++◌, arith}
 use Rattle.std.proofs.Common.{subst, append_assoc, append-nil, zero-add, length, drop, replicate, drop_at}
 use mathlib.Core.List.{flat_map}
 use lib.ListN.{length-replicate}
-use lib.Seq.{sets-eq, drop-nil}
+use lib.Seq.{sets-eq}
 use Rattle.laws.specs.Lists.{numbered}
 use Rattle.fields.specs.Field.{Field, fields, nothing}
 use Rattle.model.specs.Model.{entries}
@@ -17,8 +17,7 @@ use Rattle.contract.specs.Each.{record_count, each_record, EachRecorded, records
 use Rattle.contract.specs.Reading.{size_of}
 use Rattle.contract.specs.declared.records.Recorded.{Recorded}
 use Rattle.contract.proofs.Enough.{Fitting, on-entry, entry-fits, file-fits, each-enough}
-use Rattle.contract.proofs.Reading.{first-read, second-read, size-read, covers-read}
-use Rattle.verdict.proofs.Running.{sheet-long}
+use Rattle.contract.proofs.Reading.{first-read, second-read, size-read}
 use Rattle.listing.specs.Listing.{refusal_line, accepted_line, rejected_line, cover_line, entry_lines, listing}
 use Rattle.listing.specs.Coded.{lines_of, text_of}
 use Rattle.listing.proofs.Covers.{all-covers}
@@ -41,15 +40,11 @@ module _ (n : ℕ) (entry : Field) (behind : List ℕ) where
   lines-back (refused k p) f = rw (first-read entry behind (refused k p) f, second-read entry behind (refused k p) f)
   lines-back (rejected k r) f = rw (first-read entry behind (rejected k r) f)
   lines-back (accepted cs) f =
-      let none : drop {A = ℕ} (3 * length cs) [] ≡ [] = drop-nil (3 * length cs) in
-      let many : length (sheet cs ++ []) / 3 ≡ length cs = rw (append-nil (sheet cs), sheet-long cs) (omega arith) in
       rw (
         first-read entry behind (accepted cs) f,
         second-read entry behind (accepted cs) f,
-        covers-read entry behind (accepted cs) f,
-        none,
-        many,
-        all-covers cs [],
+        append_assoc (sheet cs) (drop (3 * length cs) []) behind,
+        all-covers cs (drop (3 * length cs) [] ++ behind),
       )
 
   after-back : (v : Verdict) → Fitting entry v → drop (size_of (front v)) (front v) ≡ behind

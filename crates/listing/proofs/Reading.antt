@@ -1,12 +1,12 @@
 -- What is read off a record, its lines, and the records one after the other.
 use Rattle.std.specs.List.{enumerate_from}
-use Rattle.std.proofs.Common.{ℕ, zero, suc, ◌+◌, ◌*◌, ◌/◌, ◌<◌, ◌≡◌, refl, ap, List, [], ◌∷◌, arith, add-one, eq-eqb, ne_eqb, length, get_or, take, drop, take_all, take-suc}
+use Rattle.std.proofs.Common.{ℕ, zero, suc, ◌+◌, ◌*◌, ◌<◌, ◌≡◌, refl, ap, List, [], ◌∷◌, arith, add-one, eq-eqb, ne_eqb, length, get_or, take, drop, take_all, take-suc}
 use mathlib.Core.List.{flat_map}
 use Rattle.output.specs.Writes.{Writes}
 use Rattle.output.specs.declared.Output.{Output}
 use Rattle.output.proofs.Buffer.{writes-none, writes_then}
 use Rattle.contract.specs.Records.{below}
-use Rattle.contract.specs.Reading.{outcome_in, first_in, second_in, size_of, covers_in}
+use Rattle.contract.specs.Reading.{outcome_in, first_in, second_in, size_of}
 use Rattle.contract.proofs.Below.{each-then}
 use Rattle.listing.specs.Decimal.{decimal}
 use Rattle.listing.specs.Listing.{line, refusal_line, accepted_line, rejected_line}
@@ -34,11 +34,11 @@ module _ (n : ℕ) (s : List ℕ) (what : ℕ) (e : what ≡ outcome_in s) (firs
     lines-refused z w = rw (← e, eq-eqb what 2 z, ← f, ← g) w
 
     pub lines-accepted : (what ≡ 2 → ⊥) → (what ≡ 1 → ⊥) → Writes (line (0x65 ∷ []) (decimal n ∷ (0x6F ∷ 0x6B ∷ []) ∷ decimal first ∷ decimal second ∷ [])) a b →
-        (covers : List ℕ) → covers ≡ covers_in s → (c : Output) → Writes (flat_map (cover_line_at covers) (below (length covers / 3))) b c → Writes (lines_of n s) a c
+        (covers : List ℕ) → covers ≡ drop 5 s → (c : Output) → Writes (flat_map (cover_line_at covers) (below first)) b c → Writes (lines_of n s) a c
     unfolding lines_of accepted_line
     lines-accepted y z w covers k c x =
         rw (← e, ne_eqb what 2 y, ne_eqb what 1 z, ← f, ← g, ← k)
-        (writes_then a (accepted_line n first second) (flat_map (cover_line_at covers) (below (length covers / 3))) b c w x)
+        (writes_then a (accepted_line n first second) (flat_map (cover_line_at covers) (below first)) b c w x)
 
 -- Records one after the other
 

@@ -1,5 +1,5 @@
 // The lines of the listing, one behind the other: the text of a file's records.
-ghost use Rattle.std.specs.Prelude.{◌≡◌, ◌/◌, ◌<◌, IsSome, MatchOption, length};
+ghost use Rattle.std.specs.Prelude.{◌≡◌, ◌<◌, IsSome, MatchOption, length};
 ghost use mathlib.Core.List.{flat_map};
 ghost use Rattle.output.specs.Output.{Written};
 ghost use Rattle.output.specs.Writes.{Writes};
@@ -12,6 +12,7 @@ use super::records::{Record, first_records};
 use super::text::Word::{Number, Text};
 use super::text::write_line;
 use contract::records::each_record;
+use fields::bytes::byte_at;
 use output::Output;
 use verdict::entry::SHORT_FILE;
 
@@ -21,18 +22,24 @@ const RECORDS: usize = 12609;
 // The records of a short file hardly take as much, and the shorter buffer is sooner cleared.
 const SHORT_RECORDS: usize = 1024;
 
-// The lines of some covers, whose kinds and indexes are read back from their three bytes each: `p number kind index`.
-fn write_covers(covers: &[u8], output: &mut Output)
-    ensures { Writes (flat_map (cover_line_at covers.now) (below (length covers.now / 3))) output.old output.new }
+// The line of the cover of that number, whose kind and index are read back from its three bytes: `p number kind index`.
+fn write_cover(covers: &[u8], number: usize, output: &mut Output)
+    requires { number < 65536 }
+    ensures { Writes (cover_line_at covers.now number) output.old output.new }
 {
-    let (each, _) = covers.as_chunks::<3>();
-    for (number, &[kind, high, low]) in each.iter().enumerate() {
-        let index = usize::from(u16::from_be_bytes([high, low]));
-        write_line(
-            b"p",
-            &[Number(number), Number(usize::from(kind)), Number(index)],
-            output,
-        );
+    let at = 3 * number;
+    let kind = usize::from(byte_at(covers, at));
+    let index = usize::from(u16::from_be_bytes([byte_at(covers, at + 1), byte_at(covers, at + 2)]));
+    write_line(b"p", &[Number(number), Number(kind), Number(index)], output);
+}
+
+// The lines of so many covers.
+fn write_covers(covers: &[u8], count: usize, output: &mut Output)
+    requires { count < 65536 }
+    ensures { Writes (flat_map (cover_line_at covers.now) (below count)) output.old output.new }
+{
+    for number in 0..count {
+        write_cover(covers, number, output);
     }
 }
 
@@ -52,7 +59,7 @@ fn write_record(number: usize, front: Record, output: &mut Output)
                 &[Number(number), Text(b"ok"), Number(first), Number(second)],
                 output,
             );
-            write_covers(front.covers(), output);
+            write_covers(front.covers(), first, output);
         }
     }
 }

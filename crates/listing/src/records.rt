@@ -1,10 +1,10 @@
 // Records as they are read back from their bytes.
-ghost use Rattle.std.specs.Prelude.{◌≡◌};
+ghost use Rattle.std.specs.Prelude.{◌≡◌, drop};
 ghost use Rattle.std.specs.Iterator.{YieldsFirstBy, item_count};
-ghost use Rattle.contract.specs.Reading.{front_number, outcome_in, first_in, second_in, size_of, covers_in};
+ghost use Rattle.contract.specs.Reading.{front_number, outcome_in, first_in, second_in, size_of};
 ghost use Rattle.listing.specs.Reading.{bytes_of, left};
 
-use fields::bytes::{byte_at, keep, skip};
+use fields::bytes::{byte_at, skip};
 
 // A record: the bytes from its first one on.
 #[derive(Clone, Copy)]
@@ -58,11 +58,11 @@ impl<'a> Record<'a> {
         }
     }
 
-    // Its covers.
+    // Its covers, and what stands behind them.
     pub fn covers(&self) -> &'a [u8]
-        ensures { result.now ≡ covers_in self.now.bytes.now }
+        ensures { result.now ≡ drop 5 self.now.bytes.now }
     {
-        skip(keep(self.bytes, self.size()), 5)
+        skip(self.bytes, 5)
     }
 }
 
