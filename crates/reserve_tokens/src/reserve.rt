@@ -59,8 +59,7 @@ fn list_raising<'a>(
     assets: &'a mut [Named],
     scratch: &'a mut [u16],
 ) -> Raising<'a>
-    requires within { place ≤ length facts.now.file.now }
-    requires room { length facts.now.file.now ≤ 3 * length scratch.old }
+    requires { length facts.now.file.now ≤ 3 * length scratch.old }
     ensures facts { result.facts ≡ facts.entry }
     ensures place { result.place ≡ place }
 {
@@ -82,7 +81,6 @@ fn after_entry(
     assets: &mut [Named],
     scratch: &mut [u16],
 ) -> usize
-    requires within { place ≤ length facts.now.file.now }
     requires before { Agreed facts.now.file.now before }
     requires room { length facts.now.file.now ≤ 3 * length scratch.old }
     ensures { Agreeing facts.now.file.now before (numbers_in facts.now.file.now name.now (placed_at facts.now.file.now place)) result }
@@ -160,7 +158,6 @@ fn after_entry_of_each(
     assets: &mut [Named],
     scratch: &mut [u16],
 )
-    requires within { place ≤ length facts.now.file.now }
     requires before { EachAgreed facts.now.file.now places.now numbers.old }
     requires room { length facts.now.file.now ≤ 3 * length scratch.old }
     ensures { EachAgreeing facts.now.file.now places.now numbers.old (placed_at facts.now.file.now place) numbers.new }
