@@ -1,12 +1,10 @@
 // SPDX-License-Identifier: Apache-2.0 OR MIT
 // The backings of an entry by number: backing i is debit i, and behind the debits an asset parameter. It stands in the file at
 // the i-th place of a table, the call of a debit and the parameter itself.
-ghost use Rattle.std.specs.Prelude.{◌≡◌, not, false, ◌*◌, ◌≤◌, length, take, drop};
+ghost use Rattle.std.specs.Prelude.{◌≡◌, ◌*◌, ◌≤◌, length, get_or, take, drop};
 ghost use Rattle.fields.specs.Field.{fields, front, part};
 ghost use Rattle.walking.specs.Walking.{peel, receiver};
 ghost use Rattle.walking.specs.Table.{placed_at};
-ghost use Rattle.equality.specs.Equality.{expr_eq};
-ghost use Rattle.bounds.specs.Bounds.{bounded_by_backing};
 ghost use Rattle.bounds.specs.Backing.{backing_field};
 ghost use Rattle.tokens.specs.Tokens.{differ, admitted_inflow_token};
 ghost use Rattle.tokens.specs.Numbers.{tokens_number, Standing};
@@ -16,9 +14,9 @@ ghost use Rattle.fundings.specs.Fundings.{funding_number};
 ghost use Rattle.fundings.specs.Funded.{Funded};
 ghost use Rattle.entries.specs.Entered.{entry_of};
 ghost use Rattle.guards.specs.Payouts.{payout_token};
-ghost use Rattle.backings.specs.Tables.{Admitted, debit_at, backing_in, amount_in, token_at};
+ghost use Rattle.backings.specs.Tables.{Admitted, debit_at, amount_in, token_at};
 
-use bounds::{Amount, backing_eq, bounded_by};
+use bounds::Amount;
 use entries::entry::Entry;
 use fields::bytes::skip;
 use fields::front::part_of;
@@ -37,46 +35,26 @@ fn debit_amount(s: &[u8]) -> &[u8]
     peel(part_of(s, 2))
 }
 
-// A backing: where it stands in the file, and whether it is a debit.
-#[derive(Clone, Copy)]
-pub struct Backing {
-    pub at: usize,
-    pub debit: bool,
-}
-
-// Backing number i of an entry, the debits first.
-pub fn nth_backing(entry: &Entry, i: usize) -> Backing
-    ensures { result ≡ backing_in entry.now.backed entry.now.debits i }
+// The part of the file that starts with backing number i of an entry: with the call of a debit, or with a parameter.
+fn backing_part<'a>(file: &'a [u8], entry: &Entry, i: usize) -> &'a [u8]
+    ensures { result.now ≡ drop (get_or entry.now.backed i 0) file.now }
 {
-    Backing {
-        at: usize::from(entry.backed.get(i).copied().unwrap_or(0)),
-        debit: i < entry.debits,
-    }
+    skip(
+        file,
+        usize::from(entry.backed.get(i).copied().unwrap_or(0)),
+    )
 }
 
-// The amount of a backing: that of a debit, or of a parameter.
+// The amount of backing number i of an entry, the debits first: that of a debit, or of a parameter.
 #[tactic(auto, unfolding(crate::specs::Tables::amount_in, bounds::specs::Backing::backing_field))]
-fn backing_amount(file: &[u8], backing: Backing) -> Amount
-    ensures { backing_field result ≡ amount_in file.now backing }
+pub fn backing_amount<'a>(file: &'a [u8], entry: &Entry, i: usize) -> Amount<'a>
+    ensures { backing_field result ≡ amount_in file.now entry.now i }
 {
-    if backing.debit {
-        return Amount::Expression(debit_amount(skip(file, backing.at)));
+    let part = backing_part(file, entry, i);
+    if i < entry.debits {
+        return Amount::Expression(debit_amount(part));
     }
-    Amount::OfParameter(name_of(skip(file, backing.at)))
-}
-
-// Whether the amount of a backing equals the expression at the front of s. Every comparison of amounts is this one.
-pub fn backing_equals(file: &[u8], backing: Backing, s: &[u8]) -> bool
-    ensures { result ≡ expr_eq (amount_in file.now backing) (front s.now) }
-{
-    backing_eq(backing_amount(file, backing), s)
-}
-
-// Whether a backing bounds the expression at the front of s.
-pub fn backing_bounds(file: &[u8], backing: Backing, s: &[u8]) -> bool
-    ensures { result ≡ bounded_by_backing (front s.now) (amount_in file.now backing) false }
-{
-    bounded_by(s, backing_amount(file, backing), false)
+    Amount::OfParameter(name_of(part))
 }
 
 // The number of the token that the entry at a place admits. It is worked out where a match first asks for it, and then remembered.
@@ -102,7 +80,7 @@ fn debit_token<'a>(file: &'a [u8], entry: &Entry, i: usize, facts: &Facts) -> &'
     ensures reads { result.now ≡ funding_token (fields file.now) (receiver (debit_at file.now entry.now.backed i)) }
     ensures shows { result.now ≡ take (length result.now) (drop (token_place file.now (funding_number file.now (receiver (debit_at file.now entry.now.backed i)))) file.now) }
 {
-    let debit = skip(file, nth_backing(entry, i).at);
+    let debit = backing_part(file, entry, i);
     facts.funded_token(file, receiver(debit))
 }
 

@@ -6,7 +6,9 @@ use Rattle.entries.specs.Entered.{entry_of}
 use Rattle.entries.specs.declared.entry.Entry.{Entry}
 use Rattle.backings.specs.Marked.{without, with_used}
 use Rattle.backings.specs.declared.marks.Marks.{Marks as Coded}
-use Rattle.matching.specs.Matching.{Backing, Marks, answer}
+use Rattle.backings.specs.declared.marks.Test.{Test}
+use Rattle.backings.specs.declared.marks.Test.TheVariants.{Equals, Bounds}
+use Rattle.matching.specs.Matching.{Backing, Marks, by_equal, not_taken, by_bounding, by_reserve, answer}
 use Rattle.matching.specs.Matching as matching
 use Rattle.matching.specs.Matching.Cover.{equal_debit, equal_parameter, bounding_debit, bounding_parameter, reserve}
 use Rattle.matching.specs.Matching.Reason.{split_without_amount, conflict_at_equal, amount_taken, conflict_at_bounding, no_reserve, reserve_used}
@@ -84,6 +86,25 @@ equal_at count i = cond (ltb i count) (EqualDebit i) (EqualParameter (i - count)
 -- or bounds it
 unfoldable pub bounding_at : (count i : ℕ) → Cover
 bounding_at count i = cond (ltb i count) (BoundingDebit i) (BoundingParameter (i - count))
+
+-- by the test that it passes
+abbrev pub cover_at : Test → (count i : ℕ) → Cover
+cover_at Equals = equal_at
+cover_at Bounds = bounding_at
+
+-- why a payout is rejected whose token and that of such a backing conflict
+abbrev pub conflict_at : Test → Reason
+conflict_at Equals = ConflictAtEqual
+conflict_at Bounds = ConflictAtBounding
+
+-- the step of the definition by which such a backing decides, and the one that follows where there is none
+abbrev pub step_by : Test → Fields → Field → Marks → Field → matching.Answer
+step_by Equals = by_equal
+step_by Bounds = by_bounding
+
+abbrev pub next_step : Test → Fields → Field → Marks → Field → matching.Answer
+next_step Equals = not_taken
+next_step Bounds = by_reserve
 
 -- the answer by the reserve at an index, which may be used
 unfoldable pub reserve_at : Coded → ℕ → Result Cover Reason

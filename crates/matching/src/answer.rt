@@ -1,16 +1,16 @@
 // SPDX-License-Identifier: Apache-2.0 OR MIT
 // The answer for one payout: a cover or a rejection. The steps are those of the rules, each of which decides or leaves the payout
 // to the next. A scratch table is lent, with a number for each three bytes of the file.
-ghost use Rattle.std.specs.Prelude.{◌≡◌, ◌+◌, ◌*◌, ◌≤◌, length, get_or, drop, None};
+ghost use Rattle.std.specs.Prelude.{◌≡◌, ◌+◌, ◌*◌, ◌≤◌, length, get_or, drop, None, unwrap_or};
 ghost use Rattle.reserves.specs.Holding.{FactsOf};
 ghost use Rattle.backings.specs.Marked.{all_free, uses};
 ghost use Rattle.backings.specs.Tables.{Admitted};
-ghost use Rattle.matching.specs.Matching.{by_reserve, by_bounding, not_taken, by_equal, answer};
+ghost use Rattle.matching.specs.Matching.{by_reserve, answer};
 ghost use Rattle.matching.specs.Prepared.{Ready};
-ghost use Rattle.matching.specs.Coded.{coded, at_payout, equal_at, bounding_at, reserve_at, after_cover, AnswersFor, reason_number};
+ghost use Rattle.matching.specs.Coded.{coded, at_payout, step_by, next_step, cover_at, conflict_at, reserve_at, after_cover, AnswersFor, reason_number};
 
 use backings::backing::tokens_conflict;
-use backings::marks::Marks;
+use backings::marks::{Marks, Test};
 use entries::entry::Entry;
 use fields::bytes::skip;
 use fundings::facts::Facts;
@@ -50,25 +50,26 @@ impl From<Reason> for usize {
 // The answer for one payout.
 pub type Answer = Result<Cover, Reason>;
 
-// The cover by backing number i, which equals the amount.
-#[tactic(auto, unfolding(crate::specs::Coded::equal_at))]
-fn equal_cover(debits: usize, i: usize) -> Cover
-    ensures { result ≡ equal_at debits i }
+// The cover by backing number i, the first free one that passes a test.
+#[tactic(auto, unfolding(crate::specs::Coded::equal_at, crate::specs::Coded::bounding_at))]
+fn cover_at(test: Test, debits: usize, i: usize) -> Cover
+    ensures { result ≡ cover_at test debits i }
 {
-    match i.checked_sub(debits) {
-        Some(index) => Cover::EqualParameter { index },
-        None => Cover::EqualDebit { index: i },
+    match (test, i.checked_sub(debits)) {
+        (Test::Equals, None) => Cover::EqualDebit { index: i },
+        (Test::Equals, Some(index)) => Cover::EqualParameter { index },
+        (Test::Bounds, None) => Cover::BoundingDebit { index: i },
+        (Test::Bounds, Some(index)) => Cover::BoundingParameter { index },
     }
 }
 
-// The cover by backing number i, which bounds it.
-#[tactic(auto, unfolding(crate::specs::Coded::bounding_at))]
-fn bounding_cover(debits: usize, i: usize) -> Cover
-    ensures { result ≡ bounding_at debits i }
+// Why a payout is rejected whose token and that of such a backing conflict.
+fn conflict_at(test: Test) -> Reason
+    ensures { result ≡ conflict_at test }
 {
-    match i.checked_sub(debits) {
-        Some(index) => Cover::BoundingParameter { index },
-        None => Cover::BoundingDebit { index: i },
+    match test {
+        Test::Equals => Reason::ConflictAtEqual,
+        Test::Bounds => Reason::ConflictAtBounding,
     }
 }
 
@@ -152,66 +153,33 @@ impl Pass {
         self.by_reserve_at(index)
     }
 
-    // The first free backing that bounds the amount, rejecting if its token and the payout's conflict: no other one is tried then.
-    // Else a reserve.
-    fn by_bounding(&mut self, payout: &Payout, facts: &mut Facts, scratch: &mut [u16]) -> Answer
-        requires ready { Ready payout.now.file.now payout.now.entry.now facts.old self.old payout.now.k }
+    // The answer by the first free backing that passes a test, rejecting if its token and the payout's conflict: no other one is tried
+    // then. None where there is no such backing: the next step of the rules decides.
+    fn by_backing(
+        &mut self,
+        test: Test,
+        payout: &Payout,
+        facts: &Facts,
+        scratch: &mut [u16],
+    ) -> Option<Answer>
+        requires ready { Ready payout.now.file.now payout.now.entry.now facts.now self.old payout.now.k }
         requires scratch { length payout.now.file.now ≤ 3 * length scratch.old }
-        ensures answers { result ≡ coded (at_payout by_bounding payout.now.file.now payout.now.entry.now self.old.marks payout.now.k) }
-        ensures facts { FactsOf payout.now.file.now facts.new }
+        ensures answers { unwrap_or result (coded (at_payout (next_step test) payout.now.file.now payout.now.entry.now self.old.marks payout.now.k))
+            ≡ coded (at_payout (step_by test) payout.now.file.now payout.now.entry.now self.old.marks payout.now.k) }
         ensures marks { self.new.marks ≡ self.old.marks }
         ensures admits { Admitted payout.now.file.now payout.now.entry.now.place self.new.admitted }
     {
         let Payout { file, entry, k: _ } = *payout;
         let part = payout.part();
-        let Some(i) = self.marks.first_bounding(file, entry, part) else {
-            return self.by_reserve(payout, facts, scratch);
-        };
+        let i = self.marks.first_free(file, entry, test, part)?;
         if tokens_conflict(file, entry, i, part, facts, &mut self.admitted, scratch) {
-            return Err(Reason::ConflictAtBounding);
+            return Some(Err(conflict_at(test)));
         }
-        Ok(bounding_cover(entry.debits, i))
+        Some(Ok(cover_at(test, entry.debits, i)))
     }
 
-    // Rejects if a taken backing equals the amount. Else one that bounds it, or a reserve.
-    fn not_taken(&mut self, payout: &Payout, facts: &mut Facts, scratch: &mut [u16]) -> Answer
-        requires ready { Ready payout.now.file.now payout.now.entry.now facts.old self.old payout.now.k }
-        requires scratch { length payout.now.file.now ≤ 3 * length scratch.old }
-        ensures answers { result ≡ coded (at_payout not_taken payout.now.file.now payout.now.entry.now self.old.marks payout.now.k) }
-        ensures facts { FactsOf payout.now.file.now facts.new }
-        ensures marks { self.new.marks ≡ self.old.marks }
-        ensures admits { Admitted payout.now.file.now payout.now.entry.now.place self.new.admitted }
-    {
-        if self
-            .marks
-            .is_taken(payout.file, payout.entry, payout.part())
-        {
-            return Err(Reason::AmountTaken);
-        }
-        self.by_bounding(payout, facts, scratch)
-    }
-
-    // The first free backing that equals the amount, rejecting if the tokens conflict. Else the rest.
-    fn by_equal(&mut self, payout: &Payout, facts: &mut Facts, scratch: &mut [u16]) -> Answer
-        requires ready { Ready payout.now.file.now payout.now.entry.now facts.old self.old payout.now.k }
-        requires scratch { length payout.now.file.now ≤ 3 * length scratch.old }
-        ensures answers { result ≡ coded (at_payout by_equal payout.now.file.now payout.now.entry.now self.old.marks payout.now.k) }
-        ensures facts { FactsOf payout.now.file.now facts.new }
-        ensures marks { self.new.marks ≡ self.old.marks }
-        ensures admits { Admitted payout.now.file.now payout.now.entry.now.place self.new.admitted }
-    {
-        let Payout { file, entry, k: _ } = *payout;
-        let part = payout.part();
-        let Some(i) = self.marks.first_equal(file, entry, part) else {
-            return self.not_taken(payout, facts, scratch);
-        };
-        if tokens_conflict(file, entry, i, part, facts, &mut self.admitted, scratch) {
-            return Err(Reason::ConflictAtEqual);
-        }
-        Ok(equal_cover(entry.debits, i))
-    }
-
-    // Rejects a split without an amount. Else the steps above.
+    // Rejects a split without an amount. Else a free backing that equals the amount decides; then one that is taken rejects; then a
+    // free one that bounds it decides, and at last a reserve.
     fn cover_payout(&mut self, payout: &Payout, facts: &mut Facts, scratch: &mut [u16]) -> Answer
         requires ready { Ready payout.now.file.now payout.now.entry.now facts.old self.old payout.now.k }
         requires scratch { length payout.now.file.now ≤ 3 * length scratch.old }
@@ -220,10 +188,21 @@ impl Pass {
         ensures marks { self.new.marks ≡ self.old.marks }
         ensures admits { Admitted payout.now.file.now payout.now.entry.now.place self.new.admitted }
     {
-        if !is_present(payout_amount(payout.part())) {
+        let Payout { file, entry, k: _ } = *payout;
+        let part = payout.part();
+        if !is_present(payout_amount(part)) {
             return Err(Reason::SplitWithoutAmount);
         }
-        self.by_equal(payout, facts, scratch)
+        if let Some(answer) = self.by_backing(Test::Equals, payout, facts, scratch) {
+            return answer;
+        }
+        if self.marks.is_taken(file, entry, part) {
+            return Err(Reason::AmountTaken);
+        }
+        if let Some(answer) = self.by_backing(Test::Bounds, payout, facts, scratch) {
+            return answer;
+        }
+        self.by_reserve(payout, facts, scratch)
     }
 
     // The answer for the k-th payout. A cover is taken.
