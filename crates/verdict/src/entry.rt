@@ -1,12 +1,12 @@
 // SPDX-License-Identifier: Apache-2.0 OR MIT
 // The verdict on an entry: it is read, questions 10 to 12 are asked, and then it is gone through payout by payout.
-ghost use Rattle.std.specs.Prelude.{◌≡◌, ◌*◌, ◌≤◌, length, IfSome};
+ghost use Rattle.std.specs.Prelude.{◌≡◌, ◌*◌, ◌≤◌, length, ok_or, IfSome, IfOk};
 ghost use Rattle.entries.specs.Entered.{Read, Entered};
 ghost use Rattle.reserves.specs.Holding.{FactsOf, Known};
 ghost use Rattle.matching.specs.Prepared.{Prepared};
 ghost use Rattle.questions.specs.Answers.{asked};
 ghost use Rattle.verdict.specs.declared.entry.Objection.TheVariants.{Refused};
-ghost use Rattle.verdict.specs.Place.{place_of_entry};
+ghost use Rattle.verdict.specs.Place.{place_of_entry, no_entry};
 ghost use Rattle.verdict.specs.Coded.{ask_counted, numbers_of, placed_answer, placed_covers, matched_answer, matched_covers, entry_answer, entry_covers};
 
 use super::sheet::{copy_sheet, write_cover};
@@ -22,6 +22,12 @@ pub const SHORT_FILE: usize = 6144;
 
 // A number for each three bytes of such a file.
 pub const SHORT_FIELDS: usize = 2048;
+
+// The "no" to question 9: there is no entry of that number.
+pub const NO_ENTRY: Refusal = Refusal {
+    question: Question::EntryNumber,
+    place: 0,
+};
 
 // The number of payouts, each of which has a cover, and of the backings beyond them.
 #[derive(Clone, Copy)]
@@ -212,15 +218,20 @@ pub fn place_of_entry(file: &[u8], n: usize) -> Option<usize>
     nth_entry(file, n).map(|entry| entry.place)
 }
 
+// The same, or the "no" to question 9 where there is none.
+pub fn place_or_refusal(file: &[u8], n: usize) -> Result<usize, Refusal>
+    ensures place { result ≡ ok_or (place_of_entry file.now n) no_entry }
+    ensures inside { IfOk result (λ place. place ≤ length file.now) }
+{
+    place_of_entry(file, n).ok_or(NO_ENTRY)
+}
+
 // The verdict on the n-th entry of a file that passes question 1.
 pub fn entry_verdict(file: &[u8], n: usize, covers: &mut [u8]) -> Verdict
     requires { length file.now ≤ 32768 }
     ensures answer { numbers_of result ≡ entry_answer file.now n (length covers.old) }
     ensures covers { covers.new ≡ entry_covers file.now n covers.old }
 {
-    let place = place_of_entry(file, n).ok_or(Refusal {
-        question: Question::EntryNumber,
-        place: 0,
-    })?;
+    let place = place_or_refusal(file, n)?;
     verdict_at(file, place, covers)
 }
