@@ -1,4 +1,5 @@
 pub mod FundingTokens
 pub mod Fundings
 pub mod Funder
+pub mod Remembered
 pub mod Funded

@@ -18,18 +18,20 @@ use Rattle.reserve_tokens.specs.declared.raise.Raising.{Raising}
 use Rattle.reserve_tokens.specs.ReserveTokens.{credited}
 use Rattle.reserve_tokens.specs.Reserving.{with_amount}
 use Rattle.reserve_tokens.specs.Numbers.{only_number, guard_numbers, debit_number, raise_number, numbers_in}
-use Rattle.reserve_tokens.specs.Agreeing.{RaisesOf}
-use Rattle.reserve_tokens.proofs.Called.{credited-any, debit-found, any-placed, find-placed}
+use Rattle.reserve_tokens.proofs.Called.{calls-read, credited-any, debit-found, any-placed, find-placed}
 
 -- The number of a raise
 
 -- the calls that are listed of the entry decide what its body says
-module _ (file : List ℕ) (en : Raising) (w : RaisesOf file en) (v : Field) (calls : List ℕ) (l : calls ≡ take en.calls.count en.calls.items.now) where
+module _ (en : Raising) (v : Field) (calls : List ℕ) (l : calls ≡ take en.calls.count en.calls.items.now) where
+  abbrev file : List ℕ
+  file = en.facts.now.file.now
+
   abbrev entry : Field
   entry = front (drop en.place file)
 
   called : fields_at file calls ≡ filter is_call (exprs entry)
-  called = rw l w.called
+  called = calls-read file en.place en.facts.now.short calls (l ∙ en.called)
 
   module _ (b : Bool) (e : b ≡ any (λ call. with_amount is_credit v (front (drop call file))) calls) where
     credited-is : b ≡ credited entry v
@@ -69,18 +71,21 @@ module _ (file : List ℕ) (v : Field) (entry : Placed) (fs : List Field) (e : f
   by-debit i = rw i (sym (ap (λ o. elim o [ None ↦ 0 | Some d ↦ funding_number file (receiver d) ]) (debit-found entry.this v fs e)))
 
 -- what the code tests
-module _ (file : List ℕ) (en : Raising) (w : RaisesOf file en) (x : List ℕ) (e : x ≡ drop en.place file) where
+module _ (en : Raising) (x : List ℕ) (e : x ≡ drop en.place en.facts.now.file.now) where
+  abbrev the_file : List ℕ
+  the_file = en.facts.now.file.now
+
   pub assets-here : Assets x en.assets
-  assets-here h = rw e (w.listed h)
+  assets-here h = rw e (en.listed h)
 
   module _ (v : Field) (b : Bool) (f : b ≡ is_inflow (front x) v) (number : ℕ) where
-    pub raise-comes-in : b ≡ true → number ≡ cond (credited (front (drop en.place file)) v) 0 en.guard → number ≡ raise_number file (placed_at file en.place) v
+    pub raise-comes-in : b ≡ true → number ≡ cond (credited (front (drop en.place the_file)) v) 0 en.guard → number ≡ raise_number the_file (placed_at the_file en.place) v
     unfolding raise_number
-    raise-comes-in h k = let i : is_inflow (front (drop en.place file)) v ≡ true = rw e at (sym f ∙ h) in k ∙ rw (i, w.guarded)
+    raise-comes-in h k = let i : is_inflow (front (drop en.place the_file)) v ≡ true = rw e at (sym f ∙ h) in k ∙ rw i (ap (cond (credited (front (drop en.place the_file)) v) 0) en.guarded)
 
-    pub raise-debited : b ≡ false → number ≡ debit_number file (front (drop en.place file)) v → number ≡ raise_number file (placed_at file en.place) v
+    pub raise-debited : b ≡ false → number ≡ debit_number the_file (front (drop en.place the_file)) v → number ≡ raise_number the_file (placed_at the_file en.place) v
     unfolding raise_number
-    raise-debited h k = let i : is_inflow (front (drop en.place file)) v ≡ false = rw e at (sym f ∙ h) in k ∙ rw i
+    raise-debited h k = let i : is_inflow (front (drop en.place the_file)) v ≡ false = rw e at (sym f ∙ h) in k ∙ rw i
 
 -- The numbers of an entry
 

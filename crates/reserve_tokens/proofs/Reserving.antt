@@ -1,30 +1,24 @@
 -- Entry by entry, and in each raise by raise: the number agreed on so far and those of the raises ahead agree on that of all.
-use Rattle.std.proofs.Common.{ℕ, suc, ◌+◌, ◌*◌, ◌≤◌, ◌<◌, ◌≡◌, refl, sym, ap, ◌∙◌, Bool, true, false, cond, not, List, [], ◌∷◌, ◌++◌, map, arith, add-one, eq-eqb, ne_eqb, length, get_or, drop, drop-cons, drop_of_length-le}
+use Rattle.std.proofs.Common.{ℕ, suc, ◌+◌, ◌≤◌, ◌<◌, ◌≡◌, refl, sym, ap, ◌∙◌, Bool, true, false, cond, not, List, [], ◌∷◌, ◌++◌, map, arith, add-one, eq-eqb, ne_eqb, length, get_or, drop, drop-cons, drop_of_length-le}
 use mathlib.Core.List.{flat_map}
 use borrow.Author.Tests.{not-true}
 use Rattle.laws.specs.Lists.{filter}
-use Rattle.tags.specs.Tag.{Entry, Call, between}
+use Rattle.tags.specs.Tag.{Entry, between}
 use Rattle.tags.proofs.Ranges.{between-one}
-use Rattle.fields.specs.Table.{Listed}
 use Rattle.fields.specs.Field.{Field, Placed, fields, row, whole, front, tag, parts, placed_from}
 use Rattle.fields.specs.Row.{left, Step}
 use Rattle.fields.specs.declared.field.Fields.{Fields}
 use Rattle.fields.specs.declared.field.Field.{Field as Item}
-use Rattle.fields.specs.declared.named.Named.{Named}
-use Rattle.fields.specs.declared.table.Table.{Table}
 use Rattle.fields.proofs.EndOf.{EndOf, end-there}
 use Rattle.fields.proofs.InARow.{left-next, placed-end}
 use Rattle.model.specs.Model.{body, entries}
-use Rattle.walking.specs.Walking.{body_exprs}
-use Rattle.walking.specs.Assets.{Assets}
-use Rattle.walking.specs.Table.{placed_at, places_of}
-use Rattle.tokens.specs.Numbers.{Standing, token_of}
+use Rattle.walking.specs.Table.{placed_at}
+use Rattle.tokens.specs.Numbers.{token_of}
 use Rattle.raises.specs.Raising.{is_raise, raised_by, raising}
 use Rattle.raises.proofs.Statements.{raises-in}
 use Rattle.reserve_tokens.specs.Reserving.{Found, bars}
-use Rattle.reserve_tokens.specs.Numbers.{guard_numbers, only_number, raise_number, numbers_in, agreed}
-use Rattle.reserve_tokens.specs.Agreeing.{RaisesOf, agreed_after, Agreed, Agreeing, AllAgree}
-use Rattle.reserve_tokens.proofs.Called.{calls-read}
+use Rattle.reserve_tokens.specs.Numbers.{raise_number, numbers_in, agreed}
+use Rattle.reserve_tokens.specs.Agreeing.{agreed_after, Agreed, Agreeing, AllAgree}
 use Rattle.reserve_tokens.proofs.Held.{not-barred, found_none, found-known}
 use Rattle.reserve_tokens.proofs.Raised.{none-raised, numbers-raised}
 
@@ -97,18 +91,6 @@ pub entry-passed-over : (file name : List ℕ) (place : ℕ) (x : List ℕ) → 
     (before : ℕ) → Agreed file before → Agreeing file before (numbers_in file name (placed_at file place)) before
 entry-passed-over file name place x e b f h before a =
     none-more file before a (numbers_in file name (placed_at file place)) (none-raised file name (placed_at file place) (rw e at (sym f ∙ not-true b h)))
-
--- what the code knows of an entry
-pub entry_known : (file : List ℕ) (place : ℕ) → Standing file place 0 → (table : List ℕ) (calls : Table ℕ) →
-    Listed (places_of Call (body_exprs (placed_at file place))) table 0 calls.items.now calls.count → length file ≤ 3 * length table →
-    (guard : ℕ) → guard ≡ only_number (guard_numbers file (placed_at file place)) → (assets : Table Named) → Assets (drop place file) assets →
-    RaisesOf file (record { place = place; guard = guard; calls = calls; assets = assets })
-entry_known file place h table calls l k guard g assets n = record {
-  short = h.short;
-  called = calls-read file place 0 h table calls.items.now calls.count l k;
-  guarded = g;
-  listed = n;
-}
 
 -- One entry after the other
 

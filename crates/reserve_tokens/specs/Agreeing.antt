@@ -1,25 +1,10 @@
 -- What the raises of a state field agree on, one after the other.
-use Rattle.std.specs.Prelude.{ℕ, ◌≤◌, ◌≡◌, cond, eqb, length, take, drop}
+use Rattle.std.specs.Prelude.{ℕ, ◌≡◌, cond, eqb}
 use mathlib.Core.List.{List, [], ◌++◌, flat_map}
-use Rattle.fields.specs.Table.{fields_at}
-use Rattle.laws.specs.Lists.{filter}
-use Rattle.tags.specs.Tag.{Call}
-use Rattle.fields.specs.Field.{fields, front, tag}
+use Rattle.fields.specs.Field.{fields}
 use Rattle.model.specs.Model.{entries}
-use Rattle.walking.specs.Walking.{exprs}
-use Rattle.walking.specs.Assets.{Assets}
-use Rattle.walking.specs.Table.{placed_at}
-use Rattle.reserve_tokens.specs.declared.raise.Raising.{Raising}
 use Rattle.reserve_tokens.specs.Reserving.{Found}
-use Rattle.reserve_tokens.specs.Numbers.{guard_numbers, only_number, numbers_in, agreed}
-
--- what the code knows of an entry whose raises it goes through: the calls of its body, its asset parameters, and what is the same for
--- all raises
-pub record RaisesOf (file : List ℕ) (e : Raising) : Type 0 where
-  pub short : length file ≤ 32768
-  pub called : fields_at file (take e.calls.count e.calls.items.now) ≡ filter (λ f. eqb (tag f) Call) (exprs (front (drop e.place file)))
-  pub guarded : e.guard ≡ only_number (guard_numbers file (placed_at file e.place))
-  pub listed : Assets (drop e.place file) e.assets
+use Rattle.reserve_tokens.specs.Numbers.{numbers_in, agreed}
 
 -- what is left of a number that raises agree on, or of 0, with the numbers of further raises
 unfoldable pub agreed_after : List ℕ → ℕ → List ℕ → ℕ

@@ -2,7 +2,6 @@
 // The token that the guards of an entry's body name. Clauses play no part.
 ghost use Rattle.std.specs.Prelude.{◌≡◌, ◌≤◌, length};
 ghost use Rattle.walking.specs.Table.{placed_at};
-ghost use Rattle.tokens.specs.Numbers.{Standing};
 ghost use Rattle.reserve_tokens.specs.Numbers.{guard_number, guard_numbers, only_number};
 
 use fields::bytes::skip;
@@ -16,7 +15,6 @@ use walking::peel::peel;
 // The number of the token of the guard at a place of the file, where its expression is as a whole, peeled, Eq of in-asset and
 // an identifier; else 0. The expression stands behind the guard's three-byte head.
 fn guard_number(file: &[u8], at: usize) -> usize
-    requires { length file.now ≤ 32768 }
     ensures { result ≡ guard_number file.now (placed_at file.now at) }
 {
     let guard = skip(file, at);
@@ -35,7 +33,7 @@ fn guard_number(file: &[u8], at: usize) -> usize
 
 // The number of the token that exactly one guard of the entry at a place names; 0 where none does, or a second.
 pub fn only_guard_number(file: &[u8], place: usize) -> usize
-    requires { Standing file.now place 0 }
+    requires { place ≤ length file.now }
     ensures { result ≡ only_number (guard_numbers file.now (placed_at file.now place)) }
 {
     let mut found = 0;

@@ -1,15 +1,16 @@
 // SPDX-License-Identifier: Apache-2.0 OR MIT
 // The token of one raise, and whether it bars the field. A token is known by its number, which is the place of a comparison that
 // names it.
-ghost use Rattle.std.specs.Prelude.{◌≡◌, cond, ◌≤◌, length, drop};
+ghost use Rattle.std.specs.Prelude.{◌≡◌, cond, take, drop};
+ghost use Rattle.tags.specs.Tag.{Call};
 ghost use Rattle.fields.specs.Field.{front};
-ghost use Rattle.walking.specs.Table.{placed_at};
+ghost use Rattle.walking.specs.Walking.{body_exprs};
+ghost use Rattle.walking.specs.Assets.{Assets};
+ghost use Rattle.walking.specs.Table.{placed_at, places_of};
 ghost use Rattle.tokens.specs.Numbers.{token_of};
-ghost use Rattle.fundings.specs.Funded.{Funded};
 ghost use Rattle.reserve_tokens.specs.ReserveTokens.{credited};
 ghost use Rattle.reserve_tokens.specs.Reserving.{Found, bars};
-ghost use Rattle.reserve_tokens.specs.Numbers.{debit_number, raise_number};
-ghost use Rattle.reserve_tokens.specs.Agreeing.{RaisesOf};
+ghost use Rattle.reserve_tokens.specs.Numbers.{guard_numbers, only_number, debit_number, raise_number};
 
 use super::calls::{first_debit, is_credited};
 use fields::bytes::skip;
@@ -21,49 +22,51 @@ use tokens::number::token_of;
 use tokens::set::tokens_differ;
 use walking::shape::receiver;
 
-// An entry that raises a state field: its place in the file, the number of the token that its only such guard names, the places of
-// the calls of its body, and its asset parameters.
+// An entry that raises a state field, of the file that the facts are of: its place, the number of the token that its only such guard
+// names, the places of the calls of its body, and its asset parameters.
 #[derive(Drop)]
 pub struct Raising<'a> {
+    pub facts: &'a Facts<'a>,
     pub place: usize,
     pub guard: usize,
     pub calls: Table<'a, u16>,
     pub assets: Table<'a, Named>,
+    ghost guarded: { guard ≡ only_number (guard_numbers facts.now.file.now (placed_at facts.now.file.now place)) },
+    ghost called: { take calls.count calls.items.now ≡ places_of Call (body_exprs (placed_at facts.now.file.now place)) },
+    ghost listed: { Assets (drop place facts.now.file.now) assets },
 }
 
 // The number of the token of a raise by `p.amount`: that of the guard, and no call may credit the amount too.
-fn inflow_number(file: &[u8], entry: &Raising, amount: &[u8]) -> usize
-    requires { RaisesOf file.now entry.now }
-    ensures { result ≡ cond (credited (front (drop entry.now.place file.now)) (front amount.now)) 0 entry.now.guard }
+fn inflow_number(entry: &Raising, amount: &[u8]) -> usize
+    ensures { result ≡ cond (credited (front (drop entry.now.place entry.now.facts.now.file.now)) (front amount.now)) 0 entry.now.guard }
 {
-    if is_credited(file, amount, entry.calls.listed()) {
+    if is_credited(entry.facts.file, amount, entry.calls.listed()) {
         return 0;
     }
     entry.guard
 }
 
 // The number of the token of any other raise: the funding token of the map of the first debit of the amount.
-fn debit_number(file: &[u8], entry: &Raising, amount: &[u8], facts: &Facts) -> usize
-    requires entry { RaisesOf file.now entry.now }
-    requires funded { Funded file.now facts.now }
-    ensures { result ≡ debit_number file.now (front (drop entry.now.place file.now)) (front amount.now) }
+fn debit_number(entry: &Raising, amount: &[u8]) -> usize
+    ensures { result ≡ debit_number entry.now.facts.now.file.now (front (drop entry.now.place entry.now.facts.now.file.now)) (front amount.now) }
 {
+    let file = entry.facts.file;
     match first_debit(file, amount, entry.calls.listed()) {
-        Some(debit) => facts.funding_number(file, receiver(skip(file, usize::from(debit)))),
+        Some(debit) => entry
+            .facts
+            .funding_number(receiver(skip(file, usize::from(debit)))),
         None => 0,
     }
 }
 
 // The number of the token of a raise by the amount. One by `p.amount` is never looked for among the debits.
-pub fn raise_number(file: &[u8], entry: &Raising, amount: &[u8], facts: &Facts) -> usize
-    requires entry { RaisesOf file.now entry.now }
-    requires funded { Funded file.now facts.now }
-    ensures { result ≡ raise_number file.now (placed_at file.now entry.now.place) (front amount.now) }
+pub fn raise_number(entry: &Raising, amount: &[u8]) -> usize
+    ensures { result ≡ raise_number entry.now.facts.now.file.now (placed_at entry.now.facts.now.file.now entry.now.place) (front amount.now) }
 {
-    if is_listed_inflow(skip(file, entry.place), &entry.assets, amount) {
-        return inflow_number(file, entry, amount);
+    if is_listed_inflow(skip(entry.facts.file, entry.place), &entry.assets, amount) {
+        return inflow_number(entry, amount);
     }
-    debit_number(file, entry, amount, facts)
+    debit_number(entry, amount)
 }
 
 // Whether the token of a raise bars the field: it is unknown, or another than the one found so far. Most raises have the

@@ -4,12 +4,10 @@
 ghost use Rattle.std.specs.Prelude.{◌≡◌, ◌*◌, ◌≤◌, ◌<◌, length, take, drop};
 ghost use Rattle.fields.specs.Field.{fields};
 ghost use Rattle.walking.specs.Table.{placed_at};
-ghost use Rattle.tokens.specs.Numbers.{Standing};
 ghost use Rattle.tokens.specs.Place.{token_place};
-ghost use Rattle.fundings.specs.Funded.{Funded};
 ghost use Rattle.reserve_tokens.specs.ReserveTokens.{reserve_token};
 ghost use Rattle.reserve_tokens.specs.Numbers.{numbers_in, reserve_number};
-ghost use Rattle.reserve_tokens.specs.Agreeing.{Agreed, Agreeing, AllAgree, RaisesOf};
+ghost use Rattle.reserve_tokens.specs.Agreeing.{Agreed, Agreeing, AllAgree};
 ghost use Rattle.reserve_tokens.specs.Each.{EachAgreed, EachAgreeing, EachAllAgree, EachNumber};
 
 use super::guard::only_guard_number;
@@ -32,20 +30,19 @@ pub const FIELDS: usize = 64;
 
 // What the raises of the state field of that name in an entry agree on with those before: the number of their token, 1 before the
 // first raise and 0 where one bars the field.
-fn after_raises(file: &[u8], entry: &Raising, name: &[u8], facts: &Facts, before: usize) -> usize
-    requires entry { RaisesOf file.now entry.now }
-    requires funded { Funded file.now facts.now }
-    requires before { Agreed file.now before }
-    ensures { Agreeing file.now before (numbers_in file.now name.now (placed_at file.now entry.now.place)) result }
+fn after_raises(entry: &Raising, name: &[u8], before: usize) -> usize
+    requires { Agreed entry.now.facts.now.file.now before }
+    ensures { Agreeing entry.now.facts.now.file.now before (numbers_in entry.now.facts.now.file.now name.now (placed_at entry.now.facts.now.file.now entry.now.place)) result }
 {
     if before == 0 {
         return 0;
     }
+    let file = entry.facts.file;
     let mut agreed = before;
     let statements = fields_at(parts_of(skip(file, entry.place)), 0);
     for raise in statements.filter(|statement| is_raise(name, statement.part)) {
         let amount = raised_by(name, raise.part);
-        let number = raise_number(file, entry, amount, facts);
+        let number = raise_number(entry, amount);
         if is_barred(file, agreed, number) {
             return 0;
         }
@@ -57,61 +54,58 @@ fn after_raises(file: &[u8], entry: &Raising, name: &[u8], facts: &Facts, before
 // What is the same for all raises of the entry at a place of the file. A scratch table serves for the places of its calls, and another
 // for its asset parameters.
 fn list_raising<'a>(
-    file: &[u8],
+    facts: &'a Facts<'a>,
     place: usize,
     assets: &'a mut [Named],
     scratch: &'a mut [u16],
 ) -> Raising<'a>
-    requires standing { Standing file.now place 0 }
-    requires room { length file.now ≤ 3 * length scratch.old }
-    ensures here { result.place ≡ place }
-    ensures listed { RaisesOf file.now result }
+    requires within { place ≤ length facts.now.file.now }
+    requires room { length facts.now.file.now ≤ 3 * length scratch.old }
+    ensures facts { result.facts ≡ facts.entry }
+    ensures place { result.place ≡ place }
 {
     Raising {
+        facts: facts,
         place: place,
-        guard: only_guard_number(file, place),
-        calls: list_body(file, place, CALL, scratch),
-        assets: list_assets(skip(file, place), assets),
+        guard: only_guard_number(facts.file, place),
+        calls: list_body(facts.file, place, CALL, scratch),
+        assets: list_assets(skip(facts.file, place), assets),
     }
 }
 
 // What raises agree on with those of the entry at a place of the file. The scratch table has a number for each three bytes of the file.
 fn after_entry(
-    file: &[u8],
+    facts: &Facts,
     place: usize,
     name: &[u8],
-    facts: &Facts,
     before: usize,
     assets: &mut [Named],
     scratch: &mut [u16],
 ) -> usize
-    requires standing { Standing file.now place 0 }
-    requires funded { Funded file.now facts.now }
-    requires before { Agreed file.now before }
-    requires room { length file.now ≤ 3 * length scratch.old }
-    ensures { Agreeing file.now before (numbers_in file.now name.now (placed_at file.now place)) result }
+    requires within { place ≤ length facts.now.file.now }
+    requires before { Agreed facts.now.file.now before }
+    requires room { length facts.now.file.now ≤ 3 * length scratch.old }
+    ensures { Agreeing facts.now.file.now before (numbers_in facts.now.file.now name.now (placed_at facts.now.file.now place)) result }
 {
-    if !has_raise(skip(file, place), name) {
+    if !has_raise(skip(facts.file, place), name) {
         return before;
     }
-    let entry = list_raising(file, place, assets, scratch);
-    after_raises(file, &entry, name, facts, before)
+    let entry = list_raising(facts, place, assets, scratch);
+    after_raises(&entry, name, before)
 }
 
 // The number of the one token of all raises; 1 where there is no raise, and 0 where one bars the field.
-fn raises_number(file: &[u8], name: &[u8], facts: &Facts, scratch: &mut [u16]) -> usize
-    requires short { length file.now ≤ 32768 }
-    requires funded { Funded file.now facts.now }
-    requires room { length file.now ≤ 3 * length scratch.old }
-    ensures { AllAgree file.now name.now result }
+fn raises_number(facts: &Facts, name: &[u8], scratch: &mut [u16]) -> usize
+    requires { length facts.now.file.now ≤ 3 * length scratch.old }
+    ensures { AllAgree facts.now.file.now name.now result }
 {
     let mut agreed = 1;
     let mut assets = [Named::default(); MOST_ASSETS];
-    for field in fields_at(file, 0) {
+    for field in fields_at(facts.file, 0) {
         if field.tag() != ENTRY {
             continue;
         }
-        agreed = after_entry(file, field.place, name, facts, agreed, &mut assets, scratch);
+        agreed = after_entry(facts, field.place, name, agreed, &mut assets, scratch);
         if agreed == 0 {
             return 0;
         }
@@ -135,117 +129,90 @@ fn started(file: &[u8], name: &[u8], agreed: usize) -> usize
 }
 
 // The same, by all entries. It means the same for the whole file.
-pub fn reserve_number(file: &[u8], name: &[u8], facts: &Facts, scratch: &mut [u16]) -> usize
-    requires short { length file.now ≤ 32768 }
-    requires funded { Funded file.now facts.now }
-    requires room { length file.now ≤ 3 * length scratch.old }
-    ensures reads { result ≡ reserve_number file.now name.now }
+pub fn reserve_number(facts: &Facts, name: &[u8], scratch: &mut [u16]) -> usize
+    requires { length facts.now.file.now ≤ 3 * length scratch.old }
+    ensures reads { result ≡ reserve_number facts.now.file.now name.now }
     ensures some { 0 < result }
     ensures small { result < 65536 }
 {
-    started(file, name, raises_number(file, name, facts, scratch))
+    started(facts.file, name, raises_number(facts, name, scratch))
 }
 
 // What the raises of each state field at the places of a table agree on with those of an entry, beside what they agreed on before.
-fn after_raises_of_each(
-    file: &[u8],
-    entry: &Raising,
-    places: &[u16],
-    facts: &Facts,
-    numbers: &mut [u16],
-)
-    requires entry { RaisesOf file.now entry.now }
-    requires funded { Funded file.now facts.now }
-    requires before { EachAgreed file.now places.now numbers.old }
-    ensures { EachAgreeing file.now places.now numbers.old (placed_at file.now entry.now.place) numbers.new }
+fn after_raises_of_each(entry: &Raising, places: &[u16], numbers: &mut [u16])
+    requires { EachAgreed entry.now.facts.now.file.now places.now numbers.old }
+    ensures { EachAgreeing entry.now.facts.now.file.now places.now numbers.old (placed_at entry.now.facts.now.file.now entry.now.place) numbers.new }
 {
+    let file = entry.facts.file;
     for j in 0..places.len() {
         let name = name_of(skip(file, usize::from(places[j])));
         let before = usize::from(numbers[j]);
-        numbers[j] = after_raises(file, entry, name, facts, before) as u16;
+        numbers[j] = after_raises(entry, name, before) as u16;
     }
 }
 
 // The same of the entry at a place of the file. One that sets and adds to nothing raises no field.
 fn after_entry_of_each(
-    file: &[u8],
+    facts: &Facts,
     place: usize,
     places: &[u16],
-    facts: &Facts,
     numbers: &mut [u16],
     assets: &mut [Named],
     scratch: &mut [u16],
 )
-    requires standing { Standing file.now place 0 }
-    requires funded { Funded file.now facts.now }
-    requires before { EachAgreed file.now places.now numbers.old }
-    requires room { length file.now ≤ 3 * length scratch.old }
-    ensures { EachAgreeing file.now places.now numbers.old (placed_at file.now place) numbers.new }
+    requires within { place ≤ length facts.now.file.now }
+    requires before { EachAgreed facts.now.file.now places.now numbers.old }
+    requires room { length facts.now.file.now ≤ 3 * length scratch.old }
+    ensures { EachAgreeing facts.now.file.now places.now numbers.old (placed_at facts.now.file.now place) numbers.new }
 {
-    let mut statements = fields_at(parts_of(skip(file, place)), 0);
+    let mut statements = fields_at(parts_of(skip(facts.file, place)), 0);
     if statements.any(|statement| is_between(SET, ADD_TO, statement.tag())) {
-        let entry = list_raising(file, place, assets, scratch);
-        after_raises_of_each(file, &entry, places, facts, numbers);
+        let entry = list_raising(facts, place, assets, scratch);
+        after_raises_of_each(&entry, places, numbers);
     }
 }
 
 // What all raises of each agree on becomes the number of the token that it holds.
-fn start_each(file: &[u8], places: &[u16], numbers: &mut [u16])
-    requires short { length file.now ≤ 32768 }
-    requires agree { EachAllAgree file.now places.now numbers.old }
-    ensures { EachNumber file.now places.now numbers.new }
+fn start_each(facts: &Facts, places: &[u16], numbers: &mut [u16])
+    requires { EachAllAgree facts.now.file.now places.now numbers.old }
+    ensures { EachNumber facts.now.file.now places.now numbers.new }
 {
     for j in 0..places.len() {
-        let name = name_of(skip(file, usize::from(places[j])));
-        numbers[j] = started(file, name, usize::from(numbers[j])) as u16;
+        let name = name_of(skip(facts.file, usize::from(places[j])));
+        numbers[j] = started(facts.file, name, usize::from(numbers[j])) as u16;
     }
 }
 
 // The numbers of the tokens that the state fields at the places of a table hold: each entry is gone through once for all of them.
-pub fn reserve_numbers(
-    file: &[u8],
-    places: &[u16],
-    facts: &Facts,
-    scratch: &mut [u16],
-) -> [u16; FIELDS]
-    requires short { length file.now ≤ 32768 }
+pub fn reserve_numbers(facts: &Facts, places: &[u16], scratch: &mut [u16]) -> [u16; FIELDS]
     requires few { length places.now ≤ 64 }
-    requires funded { Funded file.now facts.now }
-    requires room { length file.now ≤ 3 * length scratch.old }
-    ensures { EachNumber file.now places.now result }
+    requires room { length facts.now.file.now ≤ 3 * length scratch.old }
+    ensures { EachNumber facts.now.file.now places.now result }
 {
     let mut numbers = [1u16; FIELDS];
     let mut assets = [Named::default(); MOST_ASSETS];
-    for field in fields_at(file, 0) {
+    for field in fields_at(facts.file, 0) {
         if field.tag() != ENTRY {
             continue;
         }
         after_entry_of_each(
-            file,
+            facts,
             field.place,
             places,
-            facts,
             &mut numbers,
             &mut assets,
             scratch,
         );
     }
-    start_each(file, places, &mut numbers);
+    start_each(facts, places, &mut numbers);
     numbers
 }
 
 // The token itself; no bytes where the field holds none.
-pub fn reserve_token<'a>(
-    file: &'a [u8],
-    name: &[u8],
-    facts: &Facts,
-    scratch: &mut [u16],
-) -> &'a [u8]
-    requires short { length file.now ≤ 32768 }
-    requires funded { Funded file.now facts.now }
-    requires room { length file.now ≤ 3 * length scratch.old }
-    ensures reads { result.now ≡ reserve_token (fields file.now) name.now }
-    ensures shows { result.now ≡ take (length result.now) (drop (token_place file.now (reserve_number file.now name.now)) file.now) }
+pub fn reserve_token<'a>(facts: &Facts<'a>, name: &[u8], scratch: &mut [u16]) -> &'a [u8]
+    requires { length facts.now.file.now ≤ 3 * length scratch.old }
+    ensures reads { result.now ≡ reserve_token (fields facts.now.file.now) name.now }
+    ensures shows { result.now ≡ take (length result.now) (drop (token_place facts.now.file.now (reserve_number facts.now.file.now name.now)) facts.now.file.now) }
 {
-    token_of(file, reserve_number(file, name, facts, scratch))
+    token_of(facts.file, reserve_number(facts, name, scratch))
 }

@@ -3,7 +3,7 @@ use Rattle.reserve_tokens.proofs.Raised.{no-debit, debit-there}
 use Rattle.reserve_tokens.proofs.raise.debit_number.Goals as goal
 
 pub returns-in-Some : goal.returns-in-Some
-returns-in-Some c = search debit-there
+returns-in-Some c = search (debit-there c.args.entry.now)
 
 pub returns-in-None : goal.returns-in-None
-returns-in-None c = search no-debit
+returns-in-None c = search (no-debit c.args.entry.now)

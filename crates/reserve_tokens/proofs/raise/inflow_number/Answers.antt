@@ -3,7 +3,7 @@ use Rattle.reserve_tokens.proofs.Raised.{credited-too, not-credited}
 use Rattle.reserve_tokens.proofs.raise.inflow_number.Goals as goal
 
 pub returns-then-is_credited : goal.returns-then-is_credited
-returns-then-is_credited c = search credited-too
+returns-then-is_credited c = search (credited-too c.args.entry.now)
 
 pub returns : goal.returns
-returns c = search not-credited
+returns c = search (not-credited c.args.entry.now)

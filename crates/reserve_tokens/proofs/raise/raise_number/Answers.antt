@@ -6,7 +6,7 @@ pub is_listed_inflow-requires : goal.is_listed_inflow-requires
 is_listed_inflow-requires c = search assets-here
 
 pub returns-then-is_listed_inflow : goal.returns-then-is_listed_inflow
-returns-then-is_listed_inflow c = search raise-comes-in
+returns-then-is_listed_inflow c = search (raise-comes-in c.args.entry.now)
 
 pub returns : goal.returns
-returns c = search raise-debited
+returns c = search (raise-debited c.args.entry.now)

@@ -11,26 +11,27 @@ pub returns-then-before-eq0 : goal.returns-then-before-eq0
 returns-then-before-eq0 c = search still-barred
 
 pub loop-raise-init : goal.loop-raise-init
-loop-raise-init c = raises-all _ _ _ _ c.requires.before c.if-before-eq0.false
+loop-raise-init c = raises-all _ _ _ _ c.requires c.if-before-eq0.false
 
 pub is_barred-requires : goal.is_barred-requires
 is_barred-requires c = c.loop-raise.invariant.found
 
 pub returns-then-is_barred : goal.returns-then-is_barred
 returns-then-is_barred c =
-    let ones = ones-read c.args.file.now c.args.name.now _ _ c.skip.ensures _ _ c.parts_of.ensures.reads c.fields_at-statements.ensures.rest in
+    let ones = ones-read c.args.entry.now.facts.now.file.now c.args.name.now _ _ c.skip.ensures _ _ c.parts_of.ensures.reads c.fields_at-statements.ensures.rest in
     let turn = YieldsList-turn (YieldsList-at c.into_iter-raise-iterator.ensures.into_iter_gives (YieldsList-from_filter _ (is_raise c.args.name.now) (YieldsList-at c.filter-raise-items.ensures.source (along-row _)) c.filter-raise-items.ensures.closure (λ x b q k. search (rules, tests)))) c.loop-raise.yielded _ c.loop-raise.yielded_by _ _ c.in-Some.raise c.in-Some.is c.next.ensures.steps in
     search raises-barred
 
 pub loop-raise-preserved : goal.loop-raise-preserved
 loop-raise-preserved c =
-    let ones = ones-read c.args.file.now c.args.name.now _ _ c.skip.ensures _ _ c.parts_of.ensures.reads c.fields_at-statements.ensures.rest in
+    let ones = ones-read c.args.entry.now.facts.now.file.now c.args.name.now _ _ c.skip.ensures _ _ c.parts_of.ensures.reads c.fields_at-statements.ensures.rest in
     let turn = YieldsList-turn (YieldsList-at c.into_iter-raise-iterator.ensures.into_iter_gives (YieldsList-from_filter _ (is_raise c.args.name.now) (YieldsList-at c.filter-raise-items.ensures.source (along-row _)) c.filter-raise-items.ensures.closure (λ x b q k. search (rules, tests)))) c.loop-raise.yielded _ c.loop-raise.yielded_by _ _ c.in-Some.raise c.in-Some.is c.next.ensures.steps in
+    let short = c.args.entry.now.facts.now.short in
     let grown = length_push c.loop-raise.yielded c.in-Some.raise in
     search raises-on
 
 pub returns : goal.returns
 returns c =
-    let ones = ones-read c.args.file.now c.args.name.now _ _ c.skip.ensures _ _ c.parts_of.ensures.reads c.fields_at-statements.ensures.rest in
+    let ones = ones-read c.args.entry.now.facts.now.file.now c.args.name.now _ _ c.skip.ensures _ _ c.parts_of.ensures.reads c.fields_at-statements.ensures.rest in
     let done = YieldsList-end (YieldsList-at c.into_iter-raise-iterator.ensures.into_iter_gives (YieldsList-from_filter _ (is_raise c.args.name.now) (YieldsList-at c.filter-raise-items.ensures.source (along-row _)) c.filter-raise-items.ensures.closure (λ x b q k. search (rules, tests)))) c.loop-raise.yielded _ c.loop-raise.yielded_by _ _ c.in-None.is c.next.ensures.steps in
     raises-done _ _ _ _ _ _ c.loop-raise.invariant _ ones done.1

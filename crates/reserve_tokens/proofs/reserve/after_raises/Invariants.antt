@@ -5,4 +5,4 @@ use Rattle.reserve_tokens.proofs.Reserving.{Raises}
 use Rattle.reserve_tokens.proofs.reserve.after_raises.Given as goal
 
 abbrev pub invariant-loop-raise : goal.invariant-loop-raise
-invariant-loop-raise l = Raises l.file l.name (placed_at l.file l.entry.place) l.initial.agreed l.agreed (length l.yielded)
+invariant-loop-raise l = Raises l.entry.facts.now.file.now l.name (placed_at l.entry.facts.now.file.now l.entry.place) l.initial.agreed l.agreed (length l.yielded)

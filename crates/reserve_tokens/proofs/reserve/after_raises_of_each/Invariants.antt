@@ -10,7 +10,7 @@ use Rattle.reserve_tokens.proofs.reserve.after_raises_of_each.Given as goal
 abbrev pub invariant-loop-j : goal.invariant-loop-j
 invariant-loop-j l =
     Replacing
-    (λ i k. Agreeing l.file (get_or l.initial.numbers i 0) (numbers_in l.file (nth_name l.file l.places i) (placed_at l.file l.entry.place)) k)
+    (λ i k. Agreeing l.entry.facts.now.file.now (get_or l.initial.numbers i 0) (numbers_in l.entry.facts.now.file.now (nth_name l.entry.facts.now.file.now l.places i) (placed_at l.entry.facts.now.file.now l.entry.place)) k)
     l.initial.numbers l.numbers l.j
 
 abbrev pub decreases-loop-j : goal.decreases-loop-j

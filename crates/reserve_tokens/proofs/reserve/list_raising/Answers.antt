@@ -1,8 +1,12 @@
 -- The lent table has room for all calls of the entry.
 use Rattle.std.proofs.Common.{rules}
 use Rattle.walking.proofs.Assets.{assets-listed}
-use Rattle.reserve_tokens.proofs.Reserving.{entry_known}
+use Rattle.fundings.proofs.Calls.{room-lent, calls-front}
 use Rattle.reserve_tokens.proofs.reserve.list_raising.Goals as goal
 
-pub returns-clause-listed : goal.returns-clause-listed
-returns-clause-listed c = search (entry_known, assets-listed, rules)
+pub invariant_of-result-clause-called : goal.invariant_of-result-clause-called
+invariant_of-result-clause-called c =
+    calls-front _ _ _ _ _ c.list_body.ensures (room-lent _ _ _ _ _ c.list_body.ensures (search rules))
+
+pub invariant_of-result-clause-listed : goal.invariant_of-result-clause-listed
+invariant_of-result-clause-listed c = search assets-listed

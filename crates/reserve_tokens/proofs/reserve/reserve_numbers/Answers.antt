@@ -1,5 +1,4 @@
 -- Field by field, of each state field the number agreed on so far and those of the entries ahead agree on that of all.
-use Rattle.std.proofs.Common.{arith}
 use Rattle.fields.proofs.EndOf.{end-all, end-inside, end-behind}
 use Rattle.reserve_tokens.proofs.Replacing.{each-ahead_all, each-found, each-ahead_past, each-ahead_on, each-ahead_end}
 use Rattle.reserve_tokens.proofs.reserve.reserve_numbers.Goals as goal
@@ -17,10 +16,8 @@ loop-field-preserved-then-tag-ne-ENTRY c = (
   each-ahead_past _ _ _ _ c.loop-field.invariant.1 c.loop-field.invariant.0 _ _ c.in-Some.ensures.steps _ c.tag.ensures c.if-tag-ne-ENTRY.true,
 )
 
-pub after_entry_of_each-requires-clause-standing : goal.after_entry_of_each-requires-clause-standing
-after_entry_of_each-requires-clause-standing c =
-    let inside = end-inside _ _ c.loop-field.invariant.0 _ _ c.in-Some.ensures.steps in
-    record { short = c.requires.short; within = inside; few = omega arith }
+pub after_entry_of_each-requires-clause-within : goal.after_entry_of_each-requires-clause-within
+after_entry_of_each-requires-clause-within c = end-inside _ _ c.loop-field.invariant.0 _ _ c.in-Some.ensures.steps
 
 pub after_entry_of_each-requires-clause-before : goal.after_entry_of_each-requires-clause-before
 after_entry_of_each-requires-clause-before c = each-found _ _ _ _ c.loop-field.invariant.1
@@ -32,5 +29,5 @@ loop-field-preserved c = (
       c.after_entry_of_each.ensures,
 )
 
-pub start_each-requires-clause-agree : goal.start_each-requires-clause-agree
-start_each-requires-clause-agree c = each-ahead_end _ _ _ _ c.loop-field.invariant.1 c.in-None.ensures.steps
+pub start_each-requires : goal.start_each-requires
+start_each-requires c = each-ahead_end _ _ _ _ c.loop-field.invariant.1 c.in-None.ensures.steps

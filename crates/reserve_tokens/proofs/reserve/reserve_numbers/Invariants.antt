@@ -4,4 +4,4 @@ use Rattle.reserve_tokens.proofs.Replacing.{EachAhead}
 use Rattle.reserve_tokens.proofs.reserve.reserve_numbers.Given as goal
 
 abbrev pub invariant-loop-field : goal.invariant-loop-field
-invariant-loop-field l = EndOf l.file l.field-iterator × EachAhead l.file l.places l.numbers l.field-iterator
+invariant-loop-field l = EndOf l.facts.file.now l.field-iterator × EachAhead l.facts.file.now l.places l.numbers l.field-iterator

@@ -6,7 +6,7 @@ use Rattle.reserve_tokens.proofs.Replacing.{Replacing}
 use Rattle.reserve_tokens.proofs.reserve.start_each.Given as goal
 
 abbrev pub invariant-loop-j : goal.invariant-loop-j
-invariant-loop-j l = Replacing (λ i k. k ≡ reserve_number l.file (nth_name l.file l.places i)) l.initial.numbers l.numbers l.j
+invariant-loop-j l = Replacing (λ i k. k ≡ reserve_number l.facts.file.now (nth_name l.facts.file.now l.places i)) l.initial.numbers l.numbers l.j
 
 abbrev pub decreases-loop-j : goal.decreases-loop-j
 decreases-loop-j l = length l.places - l.j

@@ -8,4 +8,4 @@ pub returns-clause-reads : goal.returns-clause-reads
 returns-clause-reads c = search (listed-number, rules)
 
 pub returns-clause-small : goal.returns-clause-small
-returns-clause-small c = funding-small c.args.file.now c.args.map.now c.requires.short _ (search (listed-number, rules))
+returns-clause-small c = search (funding-small, listed-number, rules)
