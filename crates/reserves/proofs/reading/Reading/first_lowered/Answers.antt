@@ -8,7 +8,7 @@ use Rattle.walking.specs.Table.{placed_at}
 use Rattle.guards.specs.Lowerings.{lowering_numbers}
 use Rattle.guards.proofs.Lowerings.{lowerings-listed}
 use Rattle.reserves.specs.Covers.{first_covering}
-use Rattle.reserves.proofs.covering.first_lowered.Goals as goal
+use Rattle.reserves.proofs.reading.Reading.first_lowered.Goals as goal
 
 by_listed : (amount : Field) (file : List ℕ) (place : ℕ) (table : List Named) (last : Table Named) →
     Listed (lowering_numbers amount (placed_at file place)) table 0 last.items.now last.count → length file ≤ 32768 → length table ≡ 3641 →

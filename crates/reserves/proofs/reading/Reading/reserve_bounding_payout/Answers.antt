@@ -1,7 +1,7 @@
 -- A payout without a known token, whose amount no guard bounds or which does not contain what comes in, has no reserve; else the first
 -- guard whose field covers decides.
 use Rattle.std.proofs.Common.{ℕ, ◌≤◌, ◌≡◌, refl, sym, ◌∙◌, Bool, true, false, not, List, [], ◌∷◌, length, drop}
-use Rattle.std.proofs.Common.{Option, None}
+use Rattle.std.proofs.Common.{Option, None, Some, arith}
 use borrow.Author.Tests.{not-true, not-false}
 use Rattle.laws.specs.Texts.{known}
 use Rattle.fields.specs.Field.{Field, fields, front, parts}
@@ -13,7 +13,7 @@ use Rattle.guards.specs.Bounding.{bounding}
 use Rattle.guards.specs.Lowerings.{lowering_numbers}
 use Rattle.reserves.specs.Covers.{asked_reserve, first_covering}
 use Rattle.reserves.proofs.Covered.{unknown-token, no-guard, none-contained, all-contained}
-use Rattle.reserves.proofs.covering.reserve_bounding_payout.Goals as goal
+use Rattle.reserves.proofs.reading.Reading.reserve_bounding_payout.Goals as goal
 
 module _ (file : List ℕ) (place : ℕ) (asked : List ℕ) (k : ℕ) where
   no-token : (t : List ℕ) → t ≡ asked_token file asked k → length t ≡ 0 → None ≡ asked_reserve file place asked k
@@ -43,11 +43,18 @@ module _ (file : List ℕ) (place : ℕ) (asked : List ℕ) (k : ℕ) where
 pub returns-then-is_empty-clause-found : goal.returns-then-is_empty-clause-found
 returns-then-is_empty-clause-found c = search (no-token, is-zero)
 
-pub returns-in_default-clause-found : goal.returns-in_default-clause-found
-returns-in_default-clause-found c = search (none-bounds, c.in_default.ensures.found)
+pub returns-in_err-guard-clause-found : goal.returns-in_err-guard-clause-found
+returns-in_err-guard-clause-found c =
+    let none : c.first_guard.result ≡ None = grind arith in
+    let left : c.from_residual.result ≡ None = grind arith in
+    rw left (search (none-bounds, rw none at c.first_guard.ensures.found))
 
 pub returns-then-not-contains_inflow-clause-found : goal.returns-then-not-contains_inflow-clause-found
-returns-then-not-contains_inflow-clause-found c = search (not-contained, c.in-Some.ensures.found)
+returns-then-not-contains_inflow-clause-found c =
+    let some : c.first_guard.result ≡ Some c.in_ok-guard.guard = grind arith in
+    search (not-contained, rw some at c.first_guard.ensures.found)
 
 pub returns-clause-found : goal.returns-clause-found
-returns-clause-found c = search (by_guards, c.in-Some.ensures.found)
+returns-clause-found c =
+    let some : c.first_guard.result ≡ Some c.in_ok-guard.guard = grind arith in
+    search (by_guards, rw some at c.first_guard.ensures.found, rw c.list_facts.ensures.same_file at c.first_lowered.ensures.found)
