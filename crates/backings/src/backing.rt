@@ -1,19 +1,19 @@
 // SPDX-License-Identifier: Apache-2.0 OR MIT
 // The backings of an entry by number: backing i is debit i, and behind the debits an asset parameter. It stands in the file at
 // the i-th place of a table, the call of a debit and the parameter itself.
-ghost use Rattle.std.specs.Prelude.{◌≡◌, ◌*◌, ◌≤◌, length, get_or, take, drop};
+ghost use Rattle.std.specs.Prelude.{◌≡◌, ◌≤◌, length, get_or, take, drop};
 ghost use Rattle.fields.specs.Field.{fields, front, part};
 ghost use Rattle.walking.specs.Walking.{peel, receiver};
 ghost use Rattle.walking.specs.Table.{placed_at};
 ghost use Rattle.bounds.specs.Backing.{backing_field};
 ghost use Rattle.tokens.specs.Tokens.{differ, admitted_inflow_token};
-ghost use Rattle.tokens.specs.Numbers.{tokens_number, Standing};
+ghost use Rattle.tokens.specs.Numbers.{tokens_number};
 ghost use Rattle.tokens.specs.Place.{token_place};
 ghost use Rattle.fundings.specs.FundingTokens.{funding_token};
 ghost use Rattle.fundings.specs.Fundings.{funding_number};
-ghost use Rattle.fundings.specs.Funded.{Funded};
 ghost use Rattle.entries.specs.Entered.{entry_of};
 ghost use Rattle.guards.specs.Payouts.{payout_token};
+ghost use Rattle.reserves.specs.Reading.{file_of};
 ghost use Rattle.backings.specs.Tables.{Admitted, debit_at, amount_in, token_at};
 
 use bounds::Amount;
@@ -23,6 +23,7 @@ use fields::front::part_of;
 use fundings::facts::Facts;
 use guards::payout::payout_token;
 use model::name_of;
+use reserves::reading::Reading;
 use tokens::number::{token_of, tokens_number};
 use tokens::set::tokens_differ;
 use walking::peel::peel;
@@ -58,30 +59,24 @@ pub fn backing_amount<'a>(file: &'a [u8], entry: &Entry, i: usize) -> Amount<'a>
 }
 
 // The number of the token that the entry at a place admits. It is worked out where a match first asks for it, and then remembered.
-fn admitted_number(
-    file: &[u8],
-    place: usize,
-    admitted: &mut Option<usize>,
-    scratch: &mut [u16],
-) -> usize
-    requires standing { Standing file.now place 0 }
-    requires room { length file.now ≤ 3 * length scratch.old }
-    requires admits { Admitted file.now place admitted.old }
-    ensures number { result ≡ tokens_number file.now (placed_at file.now place) }
-    ensures admits { Admitted file.now place admitted.new }
+fn admitted_number(reading: &mut Reading, place: usize, admitted: &mut Option<usize>) -> usize
+    requires inside { place ≤ length (file_of reading.old) }
+    requires admits { Admitted (file_of reading.old) place admitted.old }
+    ensures same_file { file_of reading.new ≡ file_of reading.old }
+    ensures number { result ≡ tokens_number (file_of reading.old) (placed_at (file_of reading.old) place) }
+    ensures admits { Admitted (file_of reading.old) place admitted.new }
 {
-    *admitted.get_or_insert_with(|| tokens_number(file, place, scratch))
+    let file = reading.facts.file;
+    *admitted.get_or_insert_with(|| tokens_number(file, place, reading.scratch))
 }
 
 // The token of a debit: the one that funds the map of debit number i.
-fn debit_token<'a>(file: &'a [u8], entry: &Entry, i: usize, facts: &Facts) -> &'a [u8]
-    requires small { length file.now ≤ 32768 }
-    requires funded { Funded file.now facts.now }
-    ensures reads { result.now ≡ funding_token (fields file.now) (receiver (debit_at file.now entry.now.backed i)) }
-    ensures shows { result.now ≡ take (length result.now) (drop (token_place file.now (funding_number file.now (receiver (debit_at file.now entry.now.backed i)))) file.now) }
+fn debit_token<'a>(facts: &Facts<'a>, entry: &Entry, i: usize) -> &'a [u8]
+    ensures reads { result.now ≡ funding_token (fields facts.now.file.now) (receiver (debit_at facts.now.file.now entry.now.backed i)) }
+    ensures shows { result.now ≡ take (length result.now) (drop (token_place facts.now.file.now (funding_number facts.now.file.now (receiver (debit_at facts.now.file.now entry.now.backed i)))) facts.now.file.now) }
 {
-    let debit = backing_part(file, entry, i);
-    facts.funded_token(file, receiver(debit))
+    let debit = backing_part(facts.file, entry, i);
+    facts.funded_token(receiver(debit))
 }
 
 // The token of an asset parameter: the one that the entry at a place admits, whose number is known.
@@ -96,26 +91,24 @@ fn parameter_token(file: &[u8], place: usize, number: usize) -> &[u8]
 // Whether the token of backing number i and that of the payout at the front of s are both known and differ. A backing's token takes
 // long to work out, so that it is asked only of a backing that matches. The one that the entry admits is then remembered.
 pub fn tokens_conflict(
-    file: &[u8],
+    reading: &mut Reading,
     entry: &Entry,
     i: usize,
     s: &[u8],
-    facts: &Facts,
     admitted: &mut Option<usize>,
-    scratch: &mut [u16],
 ) -> bool
-    requires standing { Standing file.now entry.now.place 0 }
-    requires funded { Funded file.now facts.now }
-    requires admits { Admitted file.now entry.now.place admitted.old }
-    requires room { length file.now ≤ 3 * length scratch.old }
-    ensures answer { result ≡ differ (token_at file.now entry.now i) (payout_token (front s.now)) }
-    ensures admits { Admitted file.now entry.now.place admitted.new }
+    requires inside { entry.now.place ≤ length (file_of reading.old) }
+    requires admits { Admitted (file_of reading.old) entry.now.place admitted.old }
+    ensures same_file { file_of reading.new ≡ file_of reading.old }
+    ensures answer { result ≡ differ (token_at (file_of reading.old) entry.now i) (payout_token (front s.now)) }
+    ensures admits { Admitted (file_of reading.old) entry.now.place admitted.new }
 {
     if i < entry.debits {
-        let token = debit_token(file, entry, i, facts);
+        let token = debit_token(reading.facts, entry, i);
         return tokens_differ(token, payout_token(s));
     }
-    let number = admitted_number(file, entry.place, admitted, scratch);
+    let file = reading.facts.file;
+    let number = admitted_number(reading, entry.place, admitted);
     let token = parameter_token(file, entry.place, number);
     tokens_differ(token, payout_token(s))
 }

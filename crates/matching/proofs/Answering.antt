@@ -2,7 +2,7 @@
 use Rattle.std.proofs.Common.{ℕ, ◌≡◌, refl, sym, ap, ◌∙◌, Bool, true, false, not, ◌||◌, List, [], ◌∷◌, reverse, eqb, ltb, get_or, drop}
 use Rattle.std.proofs.Common.{Option, None, Some}
 use Rattle.std.specs.Option.{unwrap_or}
-use borrow.Author.Tests.{not-true, not-false}
+use borrow.Author.Tests.{not-true}
 use Rattle.std.proofs.lemmas.List.{reverse-append}
 use Rattle.laws.specs.Texts.{same_bytes}
 use Rattle.std.specs.Prelude.{Result, Ok, Err}
@@ -16,7 +16,6 @@ use Rattle.guards.specs.Payouts.{payout_token, payout_amount}
 use Rattle.guards.specs.Asked.{asked_token, paid_at, asked_amount}
 use Rattle.entries.specs.Entered.{entry_of}
 use Rattle.entries.specs.declared.entry.Entry.{Entry}
-use Rattle.fundings.specs.declared.facts.Facts.{Facts}
 use Rattle.reserves.specs.Reserves.{reserve_bounding_payout}
 use Rattle.reserves.specs.States.{state_index}
 use Rattle.reserves.specs.Covers.{index_in}
@@ -28,12 +27,13 @@ use Rattle.matching.specs.Matching as matching
 use Rattle.matching.specs.Matching.{Backing, Marks, equals, bounds, equal_cover, bounding_cover, take_backing, take_reserve, by_reserve, by_bounding, not_taken, by_equal, answer}
 use Rattle.matching.specs.Standing.{marks_of, backings_of, backing_at}
 use Rattle.matching.specs.Prepared.{Ready, payout_at}
-use Rattle.matching.specs.Coded.{coded, coded_cover, coded_reason, at_payout, equal_at, bounding_at, cover_at, conflict_at, step_by, next_step, reserve_at}
+use Rattle.matching.specs.Coded.{coded, coded_cover, coded_reason, answered, equal_at, bounding_at, cover_at, conflict_at, step_by, next_step, reserve_at}
 use Rattle.matching.specs.declared.answer.Cover.{Cover}
 use Rattle.matching.specs.declared.answer.Cover.TheVariants.{Reserve}
 use Rattle.matching.specs.declared.answer.Reason.{Reason}
 use Rattle.matching.specs.declared.answer.Reason.TheVariants.{SplitWithoutAmount, AmountTaken, NoReserve, ReserveUsed}
 use Rattle.matching.specs.declared.answer.Pass.{Pass}
+use Rattle.matching.specs.declared.payout.Payout.{Payout}
 use Rattle.matching.proofs.Steps.{passes, cover_by, conflict_by, split_step, answer-step, taken_step, untaken-step, backing-step, no-backing-step, reserve-step, no-reserve-step, conflict-step}
 use Rattle.matching.proofs.Steps.{take_step}
 use Rattle.matching.proofs.Found.{free-some, free-none, taken-some}
@@ -90,7 +90,13 @@ passes-amount Bounds = bounds-amount
 
 -- The steps for the k-th payout, as the code reads it
 
-module _ (file : List ℕ) (en : Entry) (facts : Facts) (pass : Pass) (k : ℕ) (w : Ready file en facts pass k) where
+module _ (file : List ℕ) (p : Payout) (pass : Pass) (w : Ready file p pass) where
+  abbrev en : Entry
+  en = p.entry.now
+
+  abbrev k : ℕ
+  k = p.k
+
   abbrev model : Fields
   model = fields file
 
@@ -103,9 +109,8 @@ module _ (file : List ℕ) (en : Entry) (facts : Facts) (pass : Pass) (k : ℕ) 
   abbrev payout : Field
   payout = payout_at file en k
 
-  -- the code's answer by a step of the definition
-  abbrev answered : (Fields → Field → Marks → Field → matching.Answer) → Result Cover Reason
-  answered step = coded (at_payout step file en pass.marks k)
+  abbrev by : (Fields → Field → Marks → Field → matching.Answer) → Result Cover Reason
+  by step = answered step file p pass.marks
 
   module _ (s : List ℕ) (z : s ≡ drop (get_or en.paid k 0) file) where
     -- a backing, the first free one that passes a test
@@ -116,11 +121,11 @@ module _ (file : List ℕ) (en : Entry) (facts : Facts) (pass : Pass) (k : ℕ) 
       first : o ≡ first_free file en pass.marks test
       first = rw (← z) f
 
-      pub backing-none : o ≡ None → answered (next_step t) ≡ answered (step_by t)
+      pub backing-none : o ≡ None → by (next_step t) ≡ by (step_by t)
       unfolding marks_of
       backing-none h =
           sym (ap coded (no-backing-step model entry marks payout t
-          (free-none file en w.prepared.entered pass.marks test (passes t payout) (passes-amount t payout) (sym first ∙ h))))
+          (free-none file en w.entered pass.marks test (passes t payout) (passes-amount t payout) (sym first ∙ h))))
 
       module _ (i : ℕ) (h : o ≡ Some i) (b : Bool) (g : b ≡ differ (token_at file en i) (payout_token (front s))) where
         token : differ (backing_at file en i).token (payout_token payout) ≡ b
@@ -131,15 +136,15 @@ module _ (file : List ℕ) (en : Entry) (facts : Facts) (pass : Pass) (k : ℕ) 
         unfolding marks_of
         found =
             backing-step model entry marks payout t (backing_at file en i)
-            (free-some file en w.prepared.entered pass.marks test (passes t payout) (passes-amount t payout) i (sym first ∙ h))
+            (free-some file en w.entered pass.marks test (passes t payout) (passes-amount t payout) i (sym first ∙ h))
 
-        pub backing-conflict : b ≡ true → (r : Reason) → r ≡ conflict_at t → Err r ≡ answered (step_by t)
+        pub backing-conflict : b ≡ true → (r : Reason) → r ≡ conflict_at t → Err r ≡ by (step_by t)
         unfolding coded
         backing-conflict n r j =
             ap (λ a. Err a) (j ∙ sym (conflict-coded t))
             ∙ sym (ap coded (found ∙ conflict-step marks payout (passes t payout) (backing_at file en i) _ _ (token ∙ n)))
 
-        pub backing-covers : b ≡ false → (c : Cover) → c ≡ cover_at t en.debits i → Ok c ≡ answered (step_by t)
+        pub backing-covers : b ≡ false → (c : Cover) → c ≡ cover_at t en.debits i → Ok c ≡ by (step_by t)
         unfolding coded
         backing-covers n c j =
             ap (λ a. Ok a) (j ∙ sym (cover-coded file en i t))
@@ -150,43 +155,43 @@ module _ (file : List ℕ) (en : Entry) (facts : Facts) (pass : Pass) (k : ℕ) 
       is-there : present (payout_amount payout) ≡ there
       is-there = rw (← z, ← e) (sym f)
 
-      pub answer-split : not there ≡ true → Err SplitWithoutAmount ≡ answered answer
+      pub answer-split : not there ≡ true → Err SplitWithoutAmount ≡ by answer
       unfolding coded
       answer-split n = sym (ap coded (split_step model entry marks payout (is-there ∙ not-true there n)))
 
       -- what an equal backing decides, or the next step
-      module _ (y : not there ≡ false) (o : Option (Result Cover Reason)) (q : unwrap_or o (answered not_taken) ≡ answered by_equal) where
-        past-split : answered by_equal ≡ answered answer
-        past-split = sym (ap coded (answer-step model entry marks payout (is-there ∙ not-false there y)))
+      module _ (y : there ≡ true) (o : Option (Result Cover Reason)) (q : unwrap_or o (by not_taken) ≡ by by_equal) where
+        past-split : by by_equal ≡ by answer
+        past-split = sym (ap coded (answer-step model entry marks payout (is-there ∙ y)))
 
-        pub answer-equal : (a : Result Cover Reason) → o ≡ Some a → a ≡ answered answer
+        pub answer-equal : (a : Result Cover Reason) → o ≡ Some a → a ≡ by answer
         answer-equal a h = (rw h at q) ∙ past-split
 
         -- a taken one that equals it
         module _ (h : o ≡ None) (m : Coded) (same : m ≡ pass.marks) (b : Bool) (g : b ≡ any_taken file en m (equal_to (payout_amount (front s)))) where
-          past-equal : answered not_taken ≡ answered answer
+          past-equal : by not_taken ≡ by answer
           past-equal = (rw h at q) ∙ past-split
 
           taken_is : any (equal_to (payout_amount payout)) marks.taken ≡ b
           unfolding marks_of
           taken_is =
-              sym (taken-some file en w.prepared.entered pass.marks (equal_to (payout_amount payout)) (equals payout) (equals-amount payout))
+              sym (taken-some file en w.entered pass.marks (equal_to (payout_amount payout)) (equals payout) (equals-amount payout))
               ∙ rw (← z) (sym (rw same at g))
 
-          pub answer-taken : b ≡ true → Err AmountTaken ≡ answered answer
+          pub answer-taken : b ≡ true → Err AmountTaken ≡ by answer
           unfolding coded
           answer-taken l = sym (ap coded (taken_step model entry marks payout (taken_is ∙ l))) ∙ past-equal
 
           -- what a bounding one decides, or the last step
           module _ (l : b ≡ false) (u : Option (Result Cover Reason))
-              (v : unwrap_or u (coded (at_payout by_reserve file en m k)) ≡ coded (at_payout by_bounding file en m k)) where
-            past-taken : coded (at_payout by_bounding file en m k) ≡ answered answer
+              (v : unwrap_or u (answered by_reserve file p m) ≡ answered by_bounding file p m) where
+            past-taken : answered by_bounding file p m ≡ by answer
             past-taken = rw same (sym (ap coded (untaken-step model entry marks payout (taken_is ∙ l))) ∙ past-equal)
 
-            pub answer-bounding : (a : Result Cover Reason) → u ≡ Some a → a ≡ answered answer
+            pub answer-bounding : (a : Result Cover Reason) → u ≡ Some a → a ≡ by answer
             answer-bounding a j = (rw j at v) ∙ past-taken
 
-            pub answer-reserve : u ≡ None → (n : Coded) → n ≡ m → (a : Result Cover Reason) → a ≡ coded (at_payout by_reserve file en n k) → a ≡ answered answer
+            pub answer-reserve : u ≡ None → (n : Coded) → n ≡ m → (a : Result Cover Reason) → a ≡ answered by_reserve file p n → a ≡ by answer
             answer-reserve j n i a c = c ∙ rw i ((rw j at v) ∙ past-taken)
 
   -- a reserve
@@ -206,19 +211,19 @@ module _ (file : List ℕ) (en : Entry) (facts : Facts) (pass : Pass) (k : ℕ) 
   asked-for = refl
 
   module _ (r : Option ℕ) (g : r ≡ index_in model covering) where
-    pub reserve-none : r ≡ None → Err NoReserve ≡ coded (at_payout by_reserve file en pass.marks k)
+    pub reserve-none : r ≡ None → Err NoReserve ≡ by by_reserve
     unfolding coded index_in
     reserve-none h = go covering refl
       where
-        go : (o : Option (List ℕ)) → covering ≡ o → Err NoReserve ≡ coded (at_payout by_reserve file en pass.marks k)
+        go : (o : Option (List ℕ)) → covering ≡ o → Err NoReserve ≡ by by_reserve
         go None o = sym (ap coded (no-reserve-step model entry marks payout (asked-for ∙ o)))
         go (Some n) o = cc
 
-    pub reserve-covers : (i : ℕ) → r ≡ Some i → (a : Result Cover Reason) → a ≡ reserve_at pass.marks i → a ≡ coded (at_payout by_reserve file en pass.marks k)
+    pub reserve-covers : (i : ℕ) → r ≡ Some i → (a : Result Cover Reason) → a ≡ reserve_at pass.marks i → a ≡ by by_reserve
     unfolding index_in state_index
     reserve-covers i h a j = go covering refl
       where
-        go : (o : Option (List ℕ)) → covering ≡ o → a ≡ coded (at_payout by_reserve file en pass.marks k)
+        go : (o : Option (List ℕ)) → covering ≡ o → a ≡ by by_reserve
         go None o = cc
         go (Some n) o =
             let z : i ≡ position (same_bytes n) (state_names model) = cc in

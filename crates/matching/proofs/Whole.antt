@@ -11,7 +11,6 @@ use Rattle.model.specs.Model.{state_names}
 use Rattle.walking.specs.Walking.{peel, present}
 use Rattle.tokens.specs.Tokens.{differ}
 use Rattle.guards.specs.Payouts.{payout_token, payout_amount}
-use Rattle.fundings.specs.declared.facts.Facts.{Facts}
 use Rattle.reserves.specs.Reserves.{reserve_bounding_payout}
 use Rattle.entries.specs.declared.entry.Entry.{Entry}
 use Rattle.backings.specs.Marked.{uses, without, with_used}
@@ -27,12 +26,13 @@ use Rattle.matching.specs.Matching.Reason.{split_without_amount, conflict_at_equ
 use Rattle.matching.specs.Matching.Answer.{cover, rejection}
 use Rattle.matching.specs.Standing.{marks_of, Stands, backings_of, backing_at}
 use Rattle.matching.specs.Prepared.{Ready, payout_at}
-use Rattle.matching.specs.Coded.{coded_cover, coded_reason, coded, after_cover, at_payout, equal_at, bounding_at, cover_at, step_by, next_step, Answers, AnswersFor}
+use Rattle.matching.specs.Coded.{coded_cover, coded_reason, coded, after_cover, answered, equal_at, bounding_at, cover_at, step_by, next_step, Answers, AnswersFor}
 use Rattle.matching.specs.declared.answer.Cover.TheVariants.{EqualDebit, EqualParameter, BoundingDebit, BoundingParameter, Reserve}
 use Rattle.matching.specs.declared.answer.Cover.{Cover}
 use Rattle.matching.specs.declared.answer.Reason.{Reason}
 use Rattle.std.specs.Prelude.{Result, Ok, Err}
 use Rattle.matching.specs.declared.answer.Pass.{Pass}
+use Rattle.matching.specs.declared.payout.Payout.{Payout}
 use Rattle.matching.proofs.Steps.{passes, cover_by, conflict_by, split_step, answer-step, taken_step, untaken-step, backing-step, no-backing-step, reserve-step, no-reserve-step, conflict-step}
 use Rattle.matching.proofs.Steps.{take_step, used_step, unused-step}
 use Rattle.matching.proofs.Found.{free-some, free-none}
@@ -200,15 +200,21 @@ module _ (file : List ℕ) (en : Entry) (entered : Entered file en) (m : Coded) 
             }
 
 -- and for all marks that the code's stand for
-module _ (file : List ℕ) (en : Entry) (facts : Facts) (pass : Pass) (k : ℕ) (w : Ready file en facts pass k)
-    (r : Result Cover Reason) (e : r ≡ coded (at_payout answer file en pass.marks k)) (between left : Coded) (same : between ≡ pass.marks) where
+module _ (file : List ℕ) (p : Payout) (pass : Pass) (w : Ready file p pass)
+    (r : Result Cover Reason) (e : r ≡ answered answer file p pass.marks) (between left : Coded) (same : between ≡ pass.marks) where
+  abbrev en : Entry
+  en = p.entry.now
+
+  abbrev k : ℕ
+  k = p.k
+
   pub covered-all : (c : Cover) → r ≡ Ok c → left ≡ after_cover between en.debits c → AnswersFor file en pass.marks k (Ok c) left
   covered-all c g f before v =
-      rw (← g) (answers_covered file en w.prepared.entered pass.marks w.room before v (payout_at file en k) r e c g left (f ∙ ap (λ m. after_cover m en.debits c) same))
+      rw (← g) (answers_covered file en w.entered pass.marks w.room before v (payout_at file en k) r e c g left (f ∙ ap (λ m. after_cover m en.debits c) same))
 
   pub rejected-all : (q : Reason) → r ≡ Err q → AnswersFor file en pass.marks k (Err q) between
   rejected-all q g before v =
-      rw (← g, same) (answers_rejected file en w.prepared.entered pass.marks w.room before v (payout_at file en k) r e q g)
+      rw (← g, same) (answers_rejected file en w.entered pass.marks w.room before v (payout_at file en k) r e q g)
 
 -- one more reserve at most
 with-uses : (m : Coded) (i : ℕ) → uses (with_used m i) ≤ uses m + 1

@@ -15,6 +15,7 @@ use Rattle.matching.specs.Matching.Reason.{split_without_amount, conflict_at_equ
 use Rattle.matching.specs.Matching.Answer.{cover, rejection}
 use Rattle.matching.specs.Standing.{backings_of, marks_of, Stands}
 use Rattle.matching.specs.Prepared.{payout_at}
+use Rattle.matching.specs.declared.payout.Payout.{Payout}
 use Rattle.matching.specs.declared.answer.Cover.{Cover}
 use Rattle.matching.specs.declared.answer.Cover.TheVariants.{EqualDebit, EqualParameter, BoundingDebit, BoundingParameter, Reserve}
 use Rattle.matching.specs.declared.answer.Reason.{Reason}
@@ -113,6 +114,10 @@ reserve_at m i = cond (any (eqb i) m.used.items) (Err ReserveUsed) (Ok (Reserve 
 -- a step of the definition, for the k-th payout of an entry and the marks that the code's stand for
 abbrev pub at_payout : (Fields → Field → Marks → Field → matching.Answer) → List ℕ → Entry → Coded → ℕ → matching.Answer
 at_payout step file e m k = step (fields file) (entry_of file e.place) (marks_of (backings_of file e.place) m) (payout_at file e k)
+
+-- the code's answer by such a step, for a payout
+abbrev pub answered : (Fields → Field → Marks → Field → matching.Answer) → List ℕ → Payout → Coded → Result Cover Reason
+answered step file p m = coded (at_payout step file p.entry.now m p.k)
 
 -- the code's answer, and its marks after it, are those that the definition gives for a payout, whatever the order in which its
 -- marks stand
