@@ -52,7 +52,8 @@ fn after_raises(entry: &Raising, name: &[u8], before: usize) -> usize
 }
 
 // What is the same for all raises of the entry at a place of the file. A scratch table serves for the places of its calls, and another
-// for its asset parameters.
+// for its asset parameters. The facts and the scratch table are no struct: list_body takes the table alone, for as long as what is
+// listed in it lives, so a struct would be taken apart here and made anew for each entry, and the clause `room` is plainer.
 fn list_raising<'a>(
     facts: &'a Facts<'a>,
     place: usize,
