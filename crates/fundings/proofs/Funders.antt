@@ -63,13 +63,16 @@ module _ (file m : List ℕ) (found : ℕ) (rest : Fields) (i : Ledger file m fo
 
       module _ (q : g ≡ Entry) (k : ℕ)
           (j : k ≡ cond (funds m (front (drop f.place file))) (joined file found (tokens_number file (placed_at file f.place))) found) where
+        abbrev entries_left : List Placed
+        entries_left = filter (λ p. between Entry Entry (tag p.this)) (left behind)
+
         entry-passed : joined_all file k (numbers_among file m (left behind)) ≡ funding_number file m
         unfolding joined_all
         entry-passed = rw (j, end-there file rest i.ends f behind h) (go (funds m (front f.part.now)) refl (rw (left-next rest f behind h, ← e, between-one Entry g, eq-eqb g Entry q) at i.ahead))
           where
             go : (b : Bool) → funds m (front f.part.now) ≡ b →
-                joined_all file found (map (tokens_number file) (filter (λ p. funds m p.this) (shown f ∷ filter (λ p. between Entry Entry (tag p.this)) (left behind)))) ≡ funding_number file m →
-                joined_all file (cond b (joined file found (tokens_number file (record { place = f.place; this = front f.part.now }))) found) (numbers_among file m (left behind)) ≡ funding_number file m
+                joined_all file found (map (tokens_number file) (filter (λ p. funds m p.this) (shown f ∷ entries_left))) ≡ funding_number file m →
+                joined_all file (cond b (joined file found (tokens_number file (shown f))) found) (numbers_among file m (left behind)) ≡ funding_number file m
             go true b r = rw b at r
             go false b r = rw b at r
 

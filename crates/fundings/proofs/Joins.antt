@@ -23,6 +23,7 @@ use Rattle.walking.specs.Table.{placed_at, places_of}
 use Rattle.tokens.specs.Tokens.{is_inflow, is_funding}
 use Rattle.tokens.specs.Numbers.{token_of, joined, tokens_number}
 use Rattle.tokens.proofs.Joining.{joined-again, joined-first, joined-empty}
+use Rattle.fundings.specs.declared.funder.Funder.{Funder}
 use Rattle.fundings.specs.declared.ledger.Funding.{Funding}
 use Rattle.fundings.specs.Fundings.{is_funding_call, funded_by, is_map, number_of_map, joined_if, Joins, EntryJoins}
 use Rattle.fundings.proofs.Calls.{calls-front, funding-either, funding-named, funding-inside, calls-fund, none-funds, first-on}
@@ -139,6 +140,10 @@ module _ (file : List ℕ) (e : Field) (further : ℕ) where
             map-append (λ k. front (drop k file)) (take i calls) (call ∷ []),
             any_append (is_funding m e) (fields_at file (take i calls)) (front (drop call file) ∷ []),
           ))
+
+-- what is known of an entry whose calls may fund maps
+pub funder-known : (e : Funder) → (length e.entry.file.now ≤ 32768) × Assets (drop e.entry.place e.entry.file.now) e.assets
+funder-known e = (e.entry.short, e.listed)
 
 -- A call of the entry at a place
 module _ (file : List ℕ) (n call : ℕ) (b : Bool) (g : b ≡ is_funding_call (front (drop n file)) (front (drop call file))) (further : ℕ) (old : List Funding) where

@@ -100,6 +100,7 @@ pub fn number_of_map(file: &[u8], map: &[u8], maps: &[Funding]) -> usize
 fn join_tokens(file: &[u8], a: u16, b: u16) -> u16
     ensures { result ≡ joined file.now a b }
 {
+    // Two bytes hold what two numbers of two bytes give: try_from would have to answer for what can't be.
     join(file, usize::from(a), usize::from(b)) as u16
 }
 
@@ -121,6 +122,7 @@ fn join_map(
     }
     maps.try_push(Funding {
         number: short_number(map),
+        // The contract has it small: try_from would have to answer for what can't be.
         place: place as u16,
         tokens: named,
     })
@@ -161,6 +163,7 @@ fn named_tokens(entry: &EntryPlace, scratch: &mut [u16]) -> u16
     requires { length entry.now.file.now ≤ 3 * length scratch.old }
     ensures { result ≡ tokens_number entry.now.file.now (placed_at entry.now.file.now entry.now.place) }
 {
+    // tokens_number says that it is small: try_from would have to answer for what can't be.
     tokens_number(entry, scratch) as u16
 }
 

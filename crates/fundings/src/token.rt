@@ -18,7 +18,8 @@ use walking::walk::MOST_FIELDS;
 // The set found so far, with what an entry names if it funds the map.
 fn joined_with(entry: &EntryPlace, map: &[u8], found: usize, table: &mut [u16]) -> usize
     requires { length entry.now.file.now ≤ 3 * length table.old }
-    ensures { result ≡ joined_if entry.now.file.now (funds map.now (front (drop entry.now.place entry.now.file.now))) found (tokens_number entry.now.file.now (placed_at entry.now.file.now entry.now.place)) }
+    ensures { result ≡ joined_if entry.now.file.now (funds map.now (front (drop entry.now.place entry.now.file.now))) found
+        (tokens_number entry.now.file.now (placed_at entry.now.file.now entry.now.place)) }
 {
     if !entry_funds(entry.part(), map) {
         return found;

@@ -1,5 +1,6 @@
 // SPDX-License-Identifier: Apache-2.0 OR MIT
-// A set of tokens as one number, and the set that an entry names.
+// A set of tokens as one number, and the set that an entry names. It is a number and no enum, since it is the rules' own (Numbers.antt),
+// two sets are mostly compared by it, and two bytes of it are remembered of each of 2,979 state fields.
 ghost use Rattle.std.specs.Prelude.{◌≡◌, ◌*◌, ◌≤◌, ◌<◌, length, take, drop};
 ghost use Rattle.laws.specs.Texts.{same_bytes};
 ghost use Rattle.walking.specs.Table.{placed_at};
@@ -21,6 +22,7 @@ pub fn token_of(file: &[u8], number: usize) -> &[u8]
     ensures shows { result.now ≡ take (length result.now) (drop (token_place file.now number) file.now) }
 {
     if number < 2 {
+        // No bytes, as in the rules' definition: no token is the empty part.
         return &file[..0];
     }
     beside_in_asset(skip(file, number - 2))
@@ -64,7 +66,8 @@ pub fn condition_number(entry: &[u8], place: usize, mark: usize) -> usize
 }
 
 // The set found before, with what the conditions of an entry name, of those clauses or guards whose tags are from low to high.
-// Condition by condition, and in each part by part, the search ends where two tokens differ.
+// Condition by condition, and in each part by part, the search ends where two tokens differ. The table is no field of the entry's
+// place: it is lent on to list_conditions, which takes any, so a struct of both would only be taken apart, and the clause is plainer.
 fn joined_from(entry: &EntryPlace, low: u8, high: u8, before: usize, table: &mut [u16]) -> usize
     requires { length entry.now.file.now ≤ 3 * length table.old }
     ensures { result ≡ joined_from entry.now.file.now low high (placed_at entry.now.file.now entry.now.place) before }

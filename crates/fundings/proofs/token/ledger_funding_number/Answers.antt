@@ -16,11 +16,13 @@ entry_at-requires-clause-within c = ledger-inside _ _ _ _ c.loop-field.invariant
 
 pub returns-then-found-eq1-clause-reads : goal.returns-then-found-eq1-clause-reads
 returns-then-found-eq1-clause-reads c =
-    ledger-several _ _ _ _ c.loop-field.invariant _ _ c.in-Some.ensures.steps _ c.tag.ensures c.if-tag-ne-ENTRY.false _ (rw (c.entry_at.ensures.file, c.entry_at.ensures.place) at c.joined_with-found.ensures) c.if-found-eq1.true
+    ledger-several _ _ _ _ c.loop-field.invariant _ _ c.in-Some.ensures.steps _ c.tag.ensures c.if-tag-ne-ENTRY.false _
+    (rw (c.entry_at.ensures.file, c.entry_at.ensures.place) at c.joined_with-found.ensures) c.if-found-eq1.true
 
 pub loop-field-preserved : goal.loop-field-preserved
 loop-field-preserved c =
-    ledger-on _ _ _ _ c.loop-field.invariant _ _ c.in-Some.ensures.steps _ c.tag.ensures c.if-tag-ne-ENTRY.false _ (rw (c.entry_at.ensures.file, c.entry_at.ensures.place) at c.joined_with-found.ensures)
+    ledger-on _ _ _ _ c.loop-field.invariant _ _ c.in-Some.ensures.steps _ c.tag.ensures c.if-tag-ne-ENTRY.false _
+    (rw (c.entry_at.ensures.file, c.entry_at.ensures.place) at c.joined_with-found.ensures)
 
 pub returns-clause-reads : goal.returns-clause-reads
 returns-clause-reads c = ledger-done _ _ _ _ c.loop-field.invariant c.in-None.ensures.steps

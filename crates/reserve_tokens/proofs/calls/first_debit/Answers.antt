@@ -13,6 +13,6 @@ returns c =
     let all = YieldsList-from_copied (YieldsList-at c.copied.ensures.source (YieldsList-from_slice c.args.calls.now (search rules))) in
     let found = find_from_yields_List (λ call. is_debit (front (drop call c.args.file.now))) _ _ c.find.result c.find.ensures.ran
     (YieldsList-from_filter _ (of_amount is_debit (front c.args.amount.now) c.args.file.now c.args.calls.now)
-        (YieldsList-at c.filter-of_amount.ensures.source all) c.filter-of_amount.ensures.closure (λ x b q k. search (rules, tests)))
+    (YieldsList-at c.filter-of_amount.ensures.source all) c.filter-of_amount.ensures.closure (λ x b q k. search (rules, tests)))
     (λ x b q k. search (rules, tests)) in
     find-of_amount is_debit _ _ _ _ found

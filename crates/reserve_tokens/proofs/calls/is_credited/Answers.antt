@@ -14,5 +14,5 @@ returns c =
     any-of_amount is_credit _ _ _ _
     (any_from_yields_List (λ call. is_credit (front (drop call c.args.file.now))) _ _ _ c.any.ensures.ran
     (YieldsList-from_filter _ (of_amount is_credit (front c.args.amount.now) c.args.file.now c.args.calls.now)
-        (YieldsList-at c.filter-of_amount.ensures.source all) c.filter-of_amount.ensures.closure (λ x b q k. search (rules, tests)))
+    (YieldsList-at c.filter-of_amount.ensures.source all) c.filter-of_amount.ensures.closure (λ x b q k. search (rules, tests)))
     (λ x b q k. search (rules, tests)))
