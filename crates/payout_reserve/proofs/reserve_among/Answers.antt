@@ -1,5 +1,5 @@
 -- The k-th payout stands at its place in a table of all.
-use Rattle.std.proofs.Common.{rules, arith}
+use Rattle.std.proofs.Common.{rules}
 use Rattle.walking.specs.Walking.{is_payout}
 use Rattle.payout_reserve.proofs.Reserving.{payout-missing, payout-found}
 use Rattle.payout_reserve.proofs.reserve_among.Goals as goal
