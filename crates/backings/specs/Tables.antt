@@ -15,8 +15,9 @@ use Rattle.fundings.specs.FundingTokens.{funding_token}
 use Rattle.backings.specs.Marked.{mark_at}
 use Rattle.entries.specs.Entered.{entry_of}
 use Rattle.entries.specs.declared.entry.Entry.{Entry}
-use Rattle.backings.specs.declared.backing.Backing.{Backing}
 use Rattle.backings.specs.declared.marks.Marks.{Marks as Coded}
+use Rattle.backings.specs.declared.marks.Test.{Test}
+use Rattle.backings.specs.declared.marks.Test.TheVariants.{Equals, Bounds}
 
 -- what is remembered of the token that the entry at a place admits: nothing yet, or the token's number
 abbrev pub Admitted : (file : List ℕ) (place : ℕ) → Option ℕ → Type 0
@@ -26,13 +27,9 @@ Admitted file place remembered = IfSome remembered (λ number. number ≡ tokens
 abbrev pub debit_at : (file table : List ℕ) → ℕ → Field
 debit_at file table i = front (drop (get_or table i 0) file)
 
--- backing number i of a table
-abbrev pub backing_in : List ℕ → (count i : ℕ) → Backing
-backing_in table count i = record { at = get_or table i 0; debit = ltb i count }
-
--- the amount of a backing
-unfoldable pub amount_in : List ℕ → Backing → Field
-amount_in file b = cond b.debit (peel (part 2 (front (drop b.at file)))) (amount_of (name_of (front (drop b.at file))))
+-- the amount of backing number i
+unfoldable pub amount_in : List ℕ → Entry → ℕ → Field
+amount_in file e i = cond (ltb i e.debits) (peel (part 2 (debit_at file e.backed i))) (amount_of (name_of (front (drop (get_or e.backed i 0) file))))
 
 -- the token of backing number i
 unfoldable pub token_at : List ℕ → Entry → ℕ → List ℕ
@@ -46,17 +43,22 @@ equal_to amount backing = expr_eq backing (peel amount)
 unfoldable pub bounded_by : (amount backing : Field) → Bool
 bounded_by amount backing = bounded_by_backing amount backing false
 
--- whether backing number i of a table is free, or taken, and its amount passes a test
-unfoldable pub free_in : (file table : List ℕ) → ℕ → List Bool → (Field → Bool) → ℕ → Bool
-free_in file table count free test i = mark_at free i && test (amount_in file (backing_in table count i))
+-- that is what a test asks
+abbrev pub asked_by : Test → (amount backing : Field) → Bool
+asked_by Equals = equal_to
+asked_by Bounds = bounded_by
 
-unfoldable pub taken_in : (file table : List ℕ) → ℕ → List Bool → (Field → Bool) → ℕ → Bool
-taken_in file table count free test i = not (mark_at free i) && test (amount_in file (backing_in table count i))
+-- whether backing number i of an entry is free, or taken, and its amount passes a test
+unfoldable pub free_in : List ℕ → Entry → List Bool → (Field → Bool) → ℕ → Bool
+free_in file e free test i = mark_at free i && test (amount_in file e i)
+
+unfoldable pub taken_in : List ℕ → Entry → List Bool → (Field → Bool) → ℕ → Bool
+taken_in file e free test i = not (mark_at free i) && test (amount_in file e i)
 
 -- the number of the first such free backing of an entry, if there is one
 abbrev pub first_free : List ℕ → Entry → Coded → (Field → Bool) → Option ℕ
-first_free file e marks test = find (free_in file e.backed e.debits marks.free test) (range_with_len 0 e.total)
+first_free file e marks test = find (free_in file e marks.free test) (range_with_len 0 e.total)
 
 -- whether there is such a taken one
 abbrev pub any_taken : List ℕ → Entry → Coded → (Field → Bool) → Bool
-any_taken file e marks test = any (taken_in file e.backed e.debits marks.free test) (range_with_len 0 e.total)
+any_taken file e marks test = any (taken_in file e marks.free test) (range_with_len 0 e.total)

@@ -4,14 +4,36 @@ ghost use Rattle.std.specs.Prelude.{◌≡◌, ◌+◌, eqb};
 ghost use Rattle.laws.specs.Lists.{any};
 ghost use Rattle.fields.specs.Field.{front};
 ghost use Rattle.guards.specs.Payouts.{payout_amount};
-ghost use Rattle.backings.specs.Tables.{equal_to, bounded_by, first_free, any_taken};
+ghost use Rattle.bounds.specs.Backing.{backing_field};
+ghost use Rattle.backings.specs.Tables.{equal_to, asked_by, first_free, any_taken};
 ghost use Rattle.backings.specs.Marked.{all_free, mark_at, without, with_used};
 
-use super::backing::{backing_bounds, backing_equals, nth_backing};
+use super::backing::backing_amount;
 use arrayvec::ArrayVec;
+use bounds::{Amount, backing_eq, bounded_by};
 use entries::entry::Entry;
 use guards::payout::payout_amount;
 use walking::peel::peel;
+
+// What a backing is asked of the amount of a payout: whether it equals it, or bounds it. Every comparison of amounts is one of these.
+#[derive(Clone, Copy)]
+pub enum Test {
+    Equals,
+    Bounds,
+}
+
+impl Test {
+    // Whether a backing with this amount passes. An amount is peeled before it is compared, and to bound it the wrappers count.
+    #[tactic(auto, unfolding(crate::specs::Tables::equal_to, crate::specs::Tables::bounded_by))]
+    fn passes(self, backing: Amount, amount: &[u8]) -> bool
+        ensures { result ≡ asked_by self (front amount.now) (backing_field backing.entry) }
+    {
+        match self {
+            Test::Equals => backing_eq(backing, peel(amount)),
+            Test::Bounds => bounded_by(amount, backing, false),
+        }
+    }
+}
 
 // Backings by number, at most 64, and the state fields that are used, at most one for each of 64 payouts.
 #[derive(Drop)]
@@ -75,30 +97,21 @@ impl Marks {
         self.used.contains(&index)
     }
 
-    // The number of the first free backing that equals the amount of the payout at the front of s.
-    pub fn first_equal(&self, file: &[u8], entry: &Entry, s: &[u8]) -> Option<usize>
-        ensures { result ≡ first_free file.now entry.now self.now (equal_to (payout_amount (front s.now))) }
+    // The number of the first free backing that passes a test against the amount of the payout at the front of s.
+    pub fn first_free(&self, file: &[u8], entry: &Entry, test: Test, s: &[u8]) -> Option<usize>
+        ensures { result ≡ first_free file.now entry.now self.now (asked_by test (payout_amount (front s.now))) }
     {
-        let amount = peel(payout_amount(s));
+        let amount = payout_amount(s);
         (0..entry.total).find(|&i| self.is_free(i)
-            && backing_equals(file, nth_backing(entry, i), amount))
+            && test.passes(backing_amount(file, entry, i), amount))
     }
 
     // Whether a taken backing equals it.
     pub fn is_taken(&self, file: &[u8], entry: &Entry, s: &[u8]) -> bool
         ensures { result ≡ any_taken file.now entry.now self.now (equal_to (payout_amount (front s.now))) }
     {
-        let amount = peel(payout_amount(s));
-        (0..entry.total).any(|i| !self.is_free(i)
-            && backing_equals(file, nth_backing(entry, i), amount))
-    }
-
-    // The number of the first free backing that bounds it.
-    pub fn first_bounding(&self, file: &[u8], entry: &Entry, s: &[u8]) -> Option<usize>
-        ensures { result ≡ first_free file.now entry.now self.now (bounded_by (payout_amount (front s.now))) }
-    {
         let amount = payout_amount(s);
-        (0..entry.total).find(|&i| self.is_free(i)
-            && backing_bounds(file, nth_backing(entry, i), amount))
+        (0..entry.total).any(|i| !self.is_free(i)
+            && Test::Equals.passes(backing_amount(file, entry, i), amount))
     }
 }

@@ -33,11 +33,10 @@ module _ (file : List ℕ) (a : Answered) (e : asked a ≡ ask_file file) where
   pub table-enough : a ≡ Ok tt → length file ≤ 32769
   table-enough f = omega (arith, answered-short file a e f)
 
-  pub refused-each : (d : Refusal) → a ≡ Err d → (m k : ℕ) → m ≡ number_of d.question → k ≡ m → (t u : List ℕ) (r : Recorded) → RefusalRecorded k d.place t u r →
-      EachRecorded file t u r
+  pub refused-each : (d : Refusal) → a ≡ Err d → (t u : List ℕ) (r : Recorded) → RefusalRecorded (number_of d.question) d.place t u r → EachRecorded file t u r
   unfolding largest_of_each record_count each_record
-  refused-each d f m k q o t u r w =
-      let h : ask_file file ≡ fails k d.place = sym e ∙ ap asked f ∙ ap (λ n. fails n d.place) (sym (o ∙ q)) in
+  refused-each d f t u r w =
+      let h : ask_file file ≡ fails (number_of d.question) d.place = sym e ∙ ap asked f in
       record { what = rw (largest_of_each, h) w.what; many = rw (record_count, h) w.many; bytes = rw (each_record, h) w.bytes }
 
 pub some-there : (n : ℕ) → 0 < n → at_least_one n ≡ n

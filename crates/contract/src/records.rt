@@ -1,7 +1,8 @@
 // The records of a file, one behind the other.
 ghost use Rattle.std.specs.Prelude.{◌≡◌, ◌*◌, ◌<◌, ◌≤◌, length};
 ghost use Rattle.questions.specs.Questions.{passes, ask_file};
-ghost use Rattle.reserves.specs.Holding.{FactsOf, Known};
+ghost use Rattle.questions.specs.Answers.{number_of};
+ghost use Rattle.reserves.specs.Reading.{file_of};
 ghost use Rattle.output.specs.Writes.{Writes};
 ghost use Rattle.contract.specs.Records.{two_bytes};
 ghost use Rattle.contract.specs.Coded.{head_of, record_of, CoversIn};
@@ -9,18 +10,21 @@ ghost use Rattle.contract.specs.Each.{EntryRecorded, EachRecorded, AllRecorded, 
 
 use fields::bytes::keep;
 use fields::row::fields_at;
-use fundings::facts::{Facts, nothing_known};
+use fundings::facts::nothing_known;
 use output::Output;
 use questions::file::check_file;
+use questions::question::Refusal;
+use reserves::reading::Reading;
 use tags::ENTRY;
-use verdict::entry::{SHORT_FIELDS, SHORT_FILE, placed_verdict};
+use verdict::entry::{NO_ENTRY, SHORT_FIELDS, SHORT_FILE, placed_verdict};
 use verdict::numbers::{Numbers, Outcome};
 use walking::walk::MOST_FIELDS;
 
 // 64 payouts, the most that question 10 allows, have three bytes of covers each.
 const COVERS: usize = 192;
 
-// Of the records that are written: the largest of what the verdicts are, how many they are, and where the next one goes.
+// Of the records that are written: the largest of what the verdicts are, how many they are, and where the next one goes. They are
+// counted, since those that found no room count too, and have no bytes.
 #[derive(Drop)]
 pub struct Recorded {
     pub outcome: Outcome,
@@ -32,6 +36,7 @@ pub struct Recorded {
 fn write_number(number: usize, output: &mut Output)
     ensures { Writes (two_bytes number) output.old output.new }
 {
+    // Below 65,536 by the remainder: `try_from` would have to answer for what can't be.
     output.write_text(&((number % 65536) as u16).to_be_bytes());
 }
 
@@ -56,20 +61,13 @@ fn write_record(numbers: Numbers, covers: &[u8], output: &mut Output)
 }
 
 // Writes the record of the entry at a place, and answers what the verdict on it is.
-fn record_entry(
-    file: &[u8],
-    place: usize,
-    facts: &mut Facts,
-    scratch: &mut [u16],
-    output: &mut Output,
-) -> Outcome
-    requires inside { place ≤ length file.now }
-    requires known { Known file.now facts.old scratch.old }
-    ensures record { EntryRecorded file.now place output.old output.new result }
-    ensures facts { FactsOf file.now facts.new }
+fn record_entry(reading: &mut Reading, place: usize, output: &mut Output) -> Outcome
+    requires { place ≤ length (file_of reading.old) }
+    ensures same_file { file_of reading.new ≡ file_of reading.old }
+    ensures record { EntryRecorded (file_of reading.old) place output.old output.new result }
 {
     let mut covers = [0u8; COVERS];
-    let numbers = Numbers::from(placed_verdict(file, place, facts, scratch, &mut covers));
+    let numbers = Numbers::from(placed_verdict(reading, place, &mut covers));
     write_record(numbers, &covers, output);
     numbers.outcome
 }
@@ -80,12 +78,13 @@ fn record_entries(file: &[u8], scratch: &mut [u16], out: &mut [u8]) -> Recorded
     requires scratch { length file.now ≤ 3 * length scratch.old }
     ensures { EachRecorded file.now out.old out.new result }
 {
-    let mut facts = nothing_known();
+    let mut facts = nothing_known(file);
+    let mut reading = Reading::new(&mut facts, scratch);
     let mut output = Output::new(out);
     let mut outcome = Outcome::Accepted;
     let mut count = 0;
     for entry in fields_at(file, 0).filter(|field| field.tag() == ENTRY) {
-        let what = record_entry(file, entry.place, &mut facts, scratch, &mut output);
+        let what = record_entry(&mut reading, entry.place, &mut output);
         outcome = outcome.max(what);
         count += 1;
     }
@@ -108,14 +107,14 @@ fn record_with<const FIELDS: usize>(file: &[u8], out: &mut [u8]) -> Recorded
 }
 
 // Writes the record of a refusal, which is then the only one.
-fn record_refusal(number: usize, place: usize, out: &mut [u8]) -> Recorded
-    ensures { RefusalRecorded number place out.old out.new result }
+fn record_refusal(refusal: Refusal, out: &mut [u8]) -> Recorded
+    ensures { RefusalRecorded (number_of refusal.question) refusal.place out.old out.new result }
 {
     let mut output = Output::new(out);
     let numbers = Numbers {
         outcome: Outcome::Refused,
-        first: number,
-        second: place,
+        first: usize::from(u8::from(refusal.question)),
+        second: refusal.place,
     };
     write_numbers(numbers, &mut output);
     Recorded {
@@ -131,7 +130,7 @@ pub fn each_record(file: &[u8], out: &mut [u8]) -> Recorded
     ensures { EachRecorded file.now out.old out.new result }
 {
     if let Err(refusal) = check_file(file) {
-        return record_refusal(usize::from(u8::from(refusal.question)), refusal.place, out);
+        return record_refusal(refusal, out);
     }
     if file.len() <= SHORT_FILE {
         return record_with::<SHORT_FIELDS>(file, out);
@@ -146,7 +145,7 @@ pub fn write_records(file: &[u8], out: &mut [u8]) -> Recorded
 {
     let recorded = each_record(file, out);
     if recorded.count == 0 {
-        return record_refusal(9, 0, out);
+        return record_refusal(NO_ENTRY, out);
     }
     recorded
 }

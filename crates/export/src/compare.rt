@@ -75,9 +75,9 @@ pub extern "C" fn zevdrak_is_reserve_token(file: &[u8], field: &[u8], token: &[u
     if 32768 < file.len() {
         return false;
     }
-    let facts = nothing_known();
+    let facts = nothing_known(file);
     let mut scratch = [0u16; MOST_FIELDS];
-    same_bytes(reserve_token(file, field, &facts, &mut scratch), token)
+    same_bytes(reserve_token(&facts, field, &mut scratch), token)
 }
 
 // The state field that covers a payout of an entry by itself, both counted from 0: 0 one does, and first is its number among the

@@ -1,12 +1,12 @@
 -- Each step of the answer is the definition's: the search finds what the definition finds, or leaves the rest to the next step.
-use Rattle.std.proofs.Common.{ℕ, ◌-◌, ◌≤◌, ◌<◌, ◌≡◌, refl, sym, ap, ◌∙◌, Bool, true, false, not, ◌||◌, List, [], ◌∷◌, reverse, lt-ltb, le-ltb, eqb, ltb, get_or, drop}
-use Rattle.std.proofs.Common.{Option}
-use Rattle.std.proofs.Common.{None, Some}
-use borrow.Author.Tests.{not-true, not-false}
+use Rattle.std.proofs.Common.{ℕ, ◌≡◌, refl, sym, ap, ◌∙◌, Bool, true, false, not, ◌||◌, List, [], ◌∷◌, reverse, eqb, ltb, get_or, drop}
+use Rattle.std.proofs.Common.{Option, None, Some}
+use Rattle.std.specs.Option.{unwrap_or}
+use borrow.Author.Tests.{not-true}
 use Rattle.std.proofs.lemmas.List.{reverse-append}
 use Rattle.laws.specs.Texts.{same_bytes}
 use Rattle.std.specs.Prelude.{Result, Ok, Err}
-use Rattle.laws.specs.Lists.{any, find, position}
+use Rattle.laws.specs.Lists.{any, position}
 use Rattle.laws.proofs.Lists.{any_append}
 use Rattle.fields.specs.Field.{Field, Fields, fields, front}
 use Rattle.model.specs.Model.{state_names}
@@ -16,22 +16,25 @@ use Rattle.guards.specs.Payouts.{payout_token, payout_amount}
 use Rattle.guards.specs.Asked.{asked_token, paid_at, asked_amount}
 use Rattle.entries.specs.Entered.{entry_of}
 use Rattle.entries.specs.declared.entry.Entry.{Entry}
-use Rattle.fundings.specs.declared.facts.Facts.{Facts}
 use Rattle.reserves.specs.Reserves.{reserve_bounding_payout}
 use Rattle.reserves.specs.States.{state_index}
 use Rattle.reserves.specs.Covers.{index_in}
-use Rattle.backings.specs.Tables.{token_at, equal_to, bounded_by, first_free, any_taken}
+use Rattle.backings.specs.Tables.{token_at, equal_to, bounded_by, asked_by, first_free, any_taken}
+use Rattle.backings.specs.declared.marks.Test.{Test}
+use Rattle.backings.specs.declared.marks.Test.TheVariants.{Equals, Bounds}
 use Rattle.backings.specs.declared.marks.Marks.{Marks as Coded}
-use Rattle.matching.specs.Matching.{Backing, Marks, equals, bounds, equal_cover, bounding_cover, take_reserve, by_reserve, by_bounding, not_taken, by_equal, answer}
+use Rattle.matching.specs.Matching as matching
+use Rattle.matching.specs.Matching.{Backing, Marks, equals, bounds, equal_cover, bounding_cover, take_backing, take_reserve, by_reserve, by_bounding, not_taken, by_equal, answer}
 use Rattle.matching.specs.Standing.{marks_of, backings_of, backing_at}
 use Rattle.matching.specs.Prepared.{Ready, payout_at}
-use Rattle.matching.specs.Coded.{coded, coded_cover, at_payout, equal_at, bounding_at, reserve_at}
+use Rattle.matching.specs.Coded.{coded, coded_cover, coded_reason, answered, equal_at, bounding_at, cover_at, conflict_at, step_by, next_step, reserve_at}
 use Rattle.matching.specs.declared.answer.Cover.{Cover}
-use Rattle.matching.specs.declared.answer.Cover.TheVariants.{EqualDebit, EqualParameter, BoundingDebit, BoundingParameter, Reserve}
+use Rattle.matching.specs.declared.answer.Cover.TheVariants.{Reserve}
 use Rattle.matching.specs.declared.answer.Reason.{Reason}
-use Rattle.matching.specs.declared.answer.Reason.TheVariants.{SplitWithoutAmount, ConflictAtEqual, AmountTaken, ConflictAtBounding, NoReserve, ReserveUsed}
+use Rattle.matching.specs.declared.answer.Reason.TheVariants.{SplitWithoutAmount, AmountTaken, NoReserve, ReserveUsed}
 use Rattle.matching.specs.declared.answer.Pass.{Pass}
-use Rattle.matching.proofs.Steps.{split_step, answer-step, equal-step, no-equal-step, taken_step, untaken-step, bounding-step, no-bounding-step, reserve-step, no-reserve-step, conflict-step}
+use Rattle.matching.specs.declared.payout.Payout.{Payout}
+use Rattle.matching.proofs.Steps.{passes, cover_by, conflict_by, split_step, answer-step, taken_step, untaken-step, backing-step, no-backing-step, reserve-step, no-reserve-step, conflict-step}
 use Rattle.matching.proofs.Steps.{take_step}
 use Rattle.matching.proofs.Found.{free-some, free-none, taken-some}
 
@@ -64,22 +67,13 @@ module _ (file : List ℕ) (en : Entry) (i : ℕ) where
       go true e = rw e
       go false e = rw e
 
-module _ (count i : ℕ) where
-  pub equal-debit : i < count → EqualDebit i ≡ equal_at count i
-  unfolding equal_at
-  equal-debit h = rw (lt-ltb i count h)
+  pub cover-coded : (t : Test) → coded_cover (cover_by t (backing_at file en i)) ≡ cover_at t en.debits i
+  cover-coded Equals = equal-coded
+  cover-coded Bounds = bounding-coded
 
-  pub equal-parameter : count ≤ i → EqualParameter (i - count) ≡ equal_at count i
-  unfolding equal_at
-  equal-parameter h = rw (le-ltb i count h)
-
-  pub bounding-debit : i < count → BoundingDebit i ≡ bounding_at count i
-  unfolding bounding_at
-  bounding-debit h = rw (lt-ltb i count h)
-
-  pub bounding-parameter : count ≤ i → BoundingParameter (i - count) ≡ bounding_at count i
-  unfolding bounding_at
-  bounding-parameter h = rw (le-ltb i count h)
+conflict-coded : (t : Test) → coded_reason (conflict_by t) ≡ conflict_at t
+conflict-coded Equals = refl
+conflict-coded Bounds = refl
 
 -- the tests of a payout's backings are tests of their amounts
 pub equals-amount : (p : Field) (b : Backing) → equals p b ≡ equal_to (payout_amount p) b.amount
@@ -90,9 +84,19 @@ pub bounds-amount : (p : Field) (b : Backing) → bounds p b ≡ bounded_by (pay
 unfolding bounds bounded_by
 bounds-amount p b = refl
 
+pub passes-amount : (t : Test) (p : Field) (b : Backing) → passes t p b ≡ asked_by t (payout_amount p) b.amount
+passes-amount Equals = equals-amount
+passes-amount Bounds = bounds-amount
+
 -- The steps for the k-th payout, as the code reads it
 
-module _ (file : List ℕ) (en : Entry) (facts : Facts) (pass : Pass) (k : ℕ) (w : Ready file en facts pass k) where
+module _ (file : List ℕ) (p : Payout) (pass : Pass) (w : Ready file p pass) where
+  abbrev en : Entry
+  en = p.entry.now
+
+  abbrev k : ℕ
+  k = p.k
+
   abbrev model : Fields
   model = fields file
 
@@ -105,101 +109,90 @@ module _ (file : List ℕ) (en : Entry) (facts : Facts) (pass : Pass) (k : ℕ) 
   abbrev payout : Field
   payout = payout_at file en k
 
+  abbrev by : (Fields → Field → Marks → Field → matching.Answer) → Result Cover Reason
+  by step = answered step file p pass.marks
+
   module _ (s : List ℕ) (z : s ≡ drop (get_or en.paid k 0) file) where
+    -- a backing, the first free one that passes a test
+    module _ (t : Test) (o : Option ℕ) (f : o ≡ first_free file en pass.marks (asked_by t (payout_amount (front s)))) where
+      abbrev test : Field → Bool
+      test = asked_by t (payout_amount payout)
+
+      first : o ≡ first_free file en pass.marks test
+      first = rw (← z) f
+
+      pub backing-none : o ≡ None → by (next_step t) ≡ by (step_by t)
+      unfolding marks_of
+      backing-none h =
+          sym (ap coded (no-backing-step model entry marks payout t
+          (free-none file en w.entered pass.marks test (passes t payout) (passes-amount t payout) (sym first ∙ h))))
+
+      module _ (i : ℕ) (h : o ≡ Some i) (b : Bool) (g : b ≡ differ (token_at file en i) (payout_token (front s))) where
+        token : differ (backing_at file en i).token (payout_token payout) ≡ b
+        unfolding backing_at
+        token = rw (← z) (sym g)
+
+        found : step_by t model entry marks payout ≡ take_backing marks payout (passes t payout) (backing_at file en i) (cover_by t (backing_at file en i)) (conflict_by t)
+        unfolding marks_of
+        found =
+            backing-step model entry marks payout t (backing_at file en i)
+            (free-some file en w.entered pass.marks test (passes t payout) (passes-amount t payout) i (sym first ∙ h))
+
+        pub backing-conflict : b ≡ true → (r : Reason) → r ≡ conflict_at t → Err r ≡ by (step_by t)
+        unfolding coded
+        backing-conflict n r j =
+            ap (λ a. Err a) (j ∙ sym (conflict-coded t))
+            ∙ sym (ap coded (found ∙ conflict-step marks payout (passes t payout) (backing_at file en i) _ _ (token ∙ n)))
+
+        pub backing-covers : b ≡ false → (c : Cover) → c ≡ cover_at t en.debits i → Ok c ≡ by (step_by t)
+        unfolding coded
+        backing-covers n c j =
+            ap (λ a. Ok a) (j ∙ sym (cover-coded file en i t))
+            ∙ sym (ap coded (found ∙ take_step marks payout (passes t payout) (backing_at file en i) _ _ (token ∙ n)))
+
     -- a split without an amount
     module _ (x : List ℕ) (e : front x ≡ payout_amount (front s)) (there : Bool) (f : there ≡ present (front x)) where
       is-there : present (payout_amount payout) ≡ there
       is-there = rw (← z, ← e) (sym f)
 
-      pub answer-split : not there ≡ true → Err SplitWithoutAmount ≡ coded (at_payout answer file en pass.marks k)
+      pub answer-split : not there ≡ true → Err SplitWithoutAmount ≡ by answer
       unfolding coded
       answer-split n = sym (ap coded (split_step model entry marks payout (is-there ∙ not-true there n)))
 
-      pub answer-equal : not there ≡ false → (a : Result Cover Reason) → a ≡ coded (at_payout by_equal file en pass.marks k) → a ≡ coded (at_payout answer file en pass.marks k)
-      answer-equal n a h = h ∙ sym (ap coded (answer-step model entry marks payout (is-there ∙ not-false there n)))
+      -- what an equal backing decides, or the next step
+      module _ (y : there ≡ true) (o : Option (Result Cover Reason)) (q : unwrap_or o (by not_taken) ≡ by by_equal) where
+        past-split : by by_equal ≡ by answer
+        past-split = sym (ap coded (answer-step model entry marks payout (is-there ∙ y)))
 
-    -- an equal backing
-    module _ (o : Option ℕ) (f : o ≡ first_free file en pass.marks (equal_to (payout_amount (front s)))) where
-      equal-first : o ≡ first_free file en pass.marks (equal_to (payout_amount payout))
-      equal-first = rw (← z) f
+        pub answer-equal : (a : Result Cover Reason) → o ≡ Some a → a ≡ by answer
+        answer-equal a h = (rw h at q) ∙ past-split
 
-      pub equal-none : o ≡ None → (a : Result Cover Reason) → a ≡ coded (at_payout not_taken file en pass.marks k) → a ≡ coded (at_payout by_equal file en pass.marks k)
-      unfolding marks_of
-      equal-none h a e =
-          e
-          ∙ sym (ap coded (no-equal-step model entry marks payout
-          (free-none file en w.prepared.entered pass.marks (equal_to (payout_amount payout)) (equals payout) (equals-amount payout) (sym equal-first ∙ h))))
+        -- a taken one that equals it
+        module _ (h : o ≡ None) (m : Coded) (same : m ≡ pass.marks) (b : Bool) (g : b ≡ any_taken file en m (equal_to (payout_amount (front s)))) where
+          past-equal : by not_taken ≡ by answer
+          past-equal = (rw h at q) ∙ past-split
 
-      module _ (i : ℕ) (h : o ≡ Some i) (b : Bool) (g : b ≡ differ (token_at file en i) (payout_token (front s))) where
-        equal-token : differ (backing_at file en i).token (payout_token payout) ≡ b
-        unfolding backing_at
-        equal-token = rw (← z) (sym g)
+          taken_is : any (equal_to (payout_amount payout)) marks.taken ≡ b
+          unfolding marks_of
+          taken_is =
+              sym (taken-some file en w.entered pass.marks (equal_to (payout_amount payout)) (equals payout) (equals-amount payout))
+              ∙ rw (← z) (sym (rw same at g))
 
-        equal-found : find (equals payout) marks.free ≡ Some (backing_at file en i)
-        unfolding marks_of
-        equal-found = free-some file en w.prepared.entered pass.marks (equal_to (payout_amount payout)) (equals payout) (equals-amount payout) i (sym equal-first ∙ h)
+          pub answer-taken : b ≡ true → Err AmountTaken ≡ by answer
+          unfolding coded
+          answer-taken l = sym (ap coded (taken_step model entry marks payout (taken_is ∙ l))) ∙ past-equal
 
-        pub equal-conflict : b ≡ true → Err ConflictAtEqual ≡ coded (at_payout by_equal file en pass.marks k)
-        unfolding coded
-        equal-conflict n =
-            sym (ap coded (equal-step model entry marks payout (backing_at file en i) equal-found
-            ∙ conflict-step marks payout (equals payout) (backing_at file en i) _ _ (equal-token ∙ n)))
+          -- what a bounding one decides, or the last step
+          module _ (l : b ≡ false) (u : Option (Result Cover Reason))
+              (v : unwrap_or u (answered by_reserve file p m) ≡ answered by_bounding file p m) where
+            past-taken : answered by_bounding file p m ≡ by answer
+            past-taken = rw same (sym (ap coded (untaken-step model entry marks payout (taken_is ∙ l))) ∙ past-equal)
 
-        pub equal-covers : b ≡ false → (c : Cover) → c ≡ equal_at en.debits i → Ok c ≡ coded (at_payout by_equal file en pass.marks k)
-        unfolding coded
-        equal-covers n c j =
-            ap (λ a. Ok a) (j ∙ sym (equal-coded file en i))
-            ∙ sym (ap coded (equal-step model entry marks payout (backing_at file en i) equal-found
-            ∙ take_step marks payout (equals payout) (backing_at file en i) _ _ (equal-token ∙ n)))
+            pub answer-bounding : (a : Result Cover Reason) → u ≡ Some a → a ≡ by answer
+            answer-bounding a j = (rw j at v) ∙ past-taken
 
-    -- a taken one
-    module _ (b : Bool) (f : b ≡ any_taken file en pass.marks (equal_to (payout_amount (front s)))) where
-      taken_is : any (equal_to (payout_amount payout)) marks.taken ≡ b
-      unfolding marks_of
-      taken_is =
-          sym (taken-some file en w.prepared.entered pass.marks (equal_to (payout_amount payout)) (equals payout) (equals-amount payout))
-          ∙ rw (← z) (sym f)
-
-      pub taken-rejects : b ≡ true → Err AmountTaken ≡ coded (at_payout not_taken file en pass.marks k)
-      unfolding coded
-      taken-rejects h = sym (ap coded (taken_step model entry marks payout (taken_is ∙ h)))
-
-      pub taken_none : b ≡ false → (a : Result Cover Reason) → a ≡ coded (at_payout by_bounding file en pass.marks k) → a ≡ coded (at_payout not_taken file en pass.marks k)
-      taken_none h a e = e ∙ sym (ap coded (untaken-step model entry marks payout (taken_is ∙ h)))
-
-    -- a bounding one
-    module _ (o : Option ℕ) (f : o ≡ first_free file en pass.marks (bounded_by (payout_amount (front s)))) where
-      bounding-first : o ≡ first_free file en pass.marks (bounded_by (payout_amount payout))
-      bounding-first = rw (← z) f
-
-      pub bounding-none : o ≡ None → (a : Result Cover Reason) → a ≡ coded (at_payout by_reserve file en pass.marks k) → a ≡ coded (at_payout by_bounding file en pass.marks k)
-      unfolding marks_of
-      bounding-none h a e =
-          e
-          ∙ sym (ap coded (no-bounding-step model entry marks payout
-          (free-none file en w.prepared.entered pass.marks (bounded_by (payout_amount payout)) (bounds payout) (bounds-amount payout) (sym bounding-first ∙ h))))
-
-      module _ (i : ℕ) (h : o ≡ Some i) (b : Bool) (g : b ≡ differ (token_at file en i) (payout_token (front s))) where
-        bounding-token : differ (backing_at file en i).token (payout_token payout) ≡ b
-        unfolding backing_at
-        bounding-token = rw (← z) (sym g)
-
-        bounding-found : find (bounds payout) marks.free ≡ Some (backing_at file en i)
-        unfolding marks_of
-        bounding-found = free-some file en w.prepared.entered pass.marks (bounded_by (payout_amount payout)) (bounds payout) (bounds-amount payout) i (sym bounding-first ∙ h)
-
-        pub bounding-conflict : b ≡ true → Err ConflictAtBounding ≡ coded (at_payout by_bounding file en pass.marks k)
-        unfolding coded
-        bounding-conflict n =
-            sym (ap coded (bounding-step model entry marks payout (backing_at file en i) bounding-found
-            ∙ conflict-step marks payout (bounds payout) (backing_at file en i) _ _ (bounding-token ∙ n)))
-
-        pub bounding-covers : b ≡ false → (c : Cover) → c ≡ bounding_at en.debits i → Ok c ≡ coded (at_payout by_bounding file en pass.marks k)
-        unfolding coded
-        bounding-covers n c j =
-            ap (λ a. Ok a) (j ∙ sym (bounding-coded file en i))
-            ∙ sym (ap coded (bounding-step model entry marks payout (backing_at file en i) bounding-found
-            ∙ take_step marks payout (bounds payout) (backing_at file en i) _ _ (bounding-token ∙ n)))
+            pub answer-reserve : u ≡ None → (n : Coded) → n ≡ m → (a : Result Cover Reason) → a ≡ answered by_reserve file p n → a ≡ by answer
+            answer-reserve j n i a c = c ∙ rw i ((rw j at v) ∙ past-taken)
 
   -- a reserve
   used-coded : (i : ℕ) → coded (take_reserve marks i) ≡ reserve_at pass.marks i
@@ -218,19 +211,19 @@ module _ (file : List ℕ) (en : Entry) (facts : Facts) (pass : Pass) (k : ℕ) 
   asked-for = refl
 
   module _ (r : Option ℕ) (g : r ≡ index_in model covering) where
-    pub reserve-none : r ≡ None → Err NoReserve ≡ coded (at_payout by_reserve file en pass.marks k)
+    pub reserve-none : r ≡ None → Err NoReserve ≡ by by_reserve
     unfolding coded index_in
     reserve-none h = go covering refl
       where
-        go : (o : Option (List ℕ)) → covering ≡ o → Err NoReserve ≡ coded (at_payout by_reserve file en pass.marks k)
+        go : (o : Option (List ℕ)) → covering ≡ o → Err NoReserve ≡ by by_reserve
         go None o = sym (ap coded (no-reserve-step model entry marks payout (asked-for ∙ o)))
         go (Some n) o = cc
 
-    pub reserve-covers : (i : ℕ) → r ≡ Some i → (a : Result Cover Reason) → a ≡ reserve_at pass.marks i → a ≡ coded (at_payout by_reserve file en pass.marks k)
+    pub reserve-covers : (i : ℕ) → r ≡ Some i → (a : Result Cover Reason) → a ≡ reserve_at pass.marks i → a ≡ by by_reserve
     unfolding index_in state_index
     reserve-covers i h a j = go covering refl
       where
-        go : (o : Option (List ℕ)) → covering ≡ o → a ≡ coded (at_payout by_reserve file en pass.marks k)
+        go : (o : Option (List ℕ)) → covering ≡ o → a ≡ by by_reserve
         go None o = cc
         go (Some n) o =
             let z : i ≡ position (same_bytes n) (state_names model) = cc in

@@ -63,16 +63,16 @@ module _ (file : List ℕ) (en : Entry) (t : Entered file en) (m : Coded) (test 
   bs = backings_of file en.place
 
   -- the free ones
-  free-at : (j : ℕ) → j < en.total → free_in file en.backed en.debits m.free test j ≡ chosen_at no_backing (free_at m) tests bs j
+  free-at : (j : ℕ) → j < en.total → free_in file en m.free test j ≡ chosen_at no_backing (free_at m) tests bs j
   unfolding free_in free_at backing_at
   free-at j h = rw (backing-is file en t j h, same (backing_at file en j))
 
-  first-number : first_from (free_in file en.backed en.debits m.free test) 0 en.total ≡ first_from (chosen_at no_backing (free_at m) tests bs) 0 (length bs)
+  first-number : first_from (free_in file en m.free test) 0 en.total ≡ first_from (chosen_at no_backing (free_at m) tests bs) 0 (length bs)
   first-number = rw (backings-many file en t) (first-same _ _ en.total free-at)
 
   module _ (i : ℕ) (f : first_free file en m test ≡ Some i) where
-    abbrev there : (i ≡ first_from (free_in file en.backed en.debits m.free test) 0 en.total) × (i < en.total)
-    there = range-found (free_in file en.backed en.debits m.free test) en.total i f
+    abbrev there : (i ≡ first_from (free_in file en m.free test) 0 en.total) × (i < en.total)
+    there = range-found (free_in file en m.free test) en.total i f
 
     pub free-inside : i < en.total
     free-inside = there.1
@@ -87,22 +87,22 @@ module _ (file : List ℕ) (en : Entry) (t : Entered file en) (m : Coded) (test 
 
   pub free-none : first_free file en m test ≡ None → find tests (chosen_by (free_at m) bs) ≡ None
   free-none f =
-      let h = range-missing (free_in file en.backed en.debits m.free test) en.total f in
+      let h = range-missing (free_in file en m.free test) en.total f in
       chosen-not-found no_backing (free_at m) tests bs (omega (arith, backings-many file en t, h, first-number))
 
   -- the taken ones
-  taken-at : (j : ℕ) → j < en.total → taken_in file en.backed en.debits m.free test j ≡ chosen_at no_backing (taken_at m) tests bs j
+  taken-at : (j : ℕ) → j < en.total → taken_in file en m.free test j ≡ chosen_at no_backing (taken_at m) tests bs j
   unfolding taken_in taken_at free_at backing_at
   taken-at j h = rw (backing-is file en t j h, same (backing_at file en j))
 
   abbrev first-taken : ℕ
-  first-taken = first_from (taken_in file en.backed en.debits m.free test) 0 en.total
+  first-taken = first_from (taken_in file en m.free test) 0 en.total
 
   taken-number : first-taken ≡ first_from (chosen_at no_backing (taken_at m) tests bs) 0 (length bs)
   taken-number = rw (backings-many file en t) (first-same _ _ en.total taken-at)
 
   pub taken-some : any_taken file en m test ≡ any test (amounts (chosen_by (taken_at m) bs))
-  taken-some = rw zero-add at (range-any (taken_in file en.backed en.debits m.free test) 0 en.total) ∙ go (ltb first-taken en.total) refl
+  taken-some = rw zero-add at (range-any (taken_in file en m.free test) 0 en.total) ∙ go (ltb first-taken en.total) refl
     where
       those : any test (amounts (chosen_by (taken_at m) bs)) ≡ any tests (chosen_by (taken_at m) bs)
       those = any-map (λ b. b.amount) test (chosen_by (taken_at m) bs) ∙ sym (ap (λ g. any g (chosen_by (taken_at m) bs)) (fun_ext same))

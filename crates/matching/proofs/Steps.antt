@@ -10,10 +10,26 @@ use Rattle.tokens.specs.Tokens.{differ}
 use Rattle.guards.specs.Payouts.{payout_token, payout_amount}
 use Rattle.reserves.specs.Reserves.{reserve_bounding_payout}
 use Rattle.backings.specs.Tables.{equal_to}
+use Rattle.backings.specs.declared.marks.Test.{Test}
+use Rattle.backings.specs.declared.marks.Test.TheVariants.{Equals, Bounds}
 use Rattle.matching.specs.Matching.{Backing, Cover, Reason, Marks, equals, bounds, equal_cover, bounding_cover, take_backing, take_reserve, by_reserve, by_bounding, not_taken, by_equal, answer}
 use Rattle.matching.specs.Matching.Cover.{reserve}
 use Rattle.matching.specs.Matching.Reason.{split_without_amount, conflict_at_equal, amount_taken, conflict_at_bounding, no_reserve, reserve_used}
 use Rattle.matching.specs.Matching.Answer.{cover, rejection}
+use Rattle.matching.specs.Coded.{step_by, next_step}
+
+-- by the test that a backing passes: the definition's own, the cover and why the payout is rejected
+abbrev pub passes : Test → Field → Backing → Bool
+passes Equals = equals
+passes Bounds = bounds
+
+abbrev pub cover_by : Test → Backing → Cover
+cover_by Equals = equal_cover
+cover_by Bounds = bounding_cover
+
+abbrev pub conflict_by : Test → Reason
+conflict_by Equals = conflict_at_equal
+conflict_by Bounds = conflict_at_bounding
 
 module _ (model : Fields) (entry : Field) (s : Marks) (p : Field) where
   pub split_step : present (payout_amount p) ≡ false → answer model entry s p ≡ rejection split_without_amount
@@ -49,6 +65,15 @@ module _ (model : Fields) (entry : Field) (s : Marks) (p : Field) where
   pub no-bounding-step : find (bounds p) s.free ≡ None → by_bounding model entry s p ≡ by_reserve model entry s p
   unfolding by_bounding
   no-bounding-step e = cc
+
+  pub backing-step : (t : Test) (b : Backing) → find (passes t p) s.free ≡ Some b →
+      step_by t model entry s p ≡ take_backing s p (passes t p) b (cover_by t b) (conflict_by t)
+  backing-step Equals = equal-step
+  backing-step Bounds = bounding-step
+
+  pub no-backing-step : (t : Test) → find (passes t p) s.free ≡ None → step_by t model entry s p ≡ next_step t model entry s p
+  no-backing-step Equals = no-equal-step
+  no-backing-step Bounds = no-bounding-step
 
   pub reserve-step : (r : List ℕ) → reserve_bounding_payout model entry (peel (payout_amount p)) (payout_token p) ≡ Some r →
       by_reserve model entry s p ≡ take_reserve s (position (same_bytes r) (state_names model))

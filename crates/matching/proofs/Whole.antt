@@ -11,12 +11,13 @@ use Rattle.model.specs.Model.{state_names}
 use Rattle.walking.specs.Walking.{peel, present}
 use Rattle.tokens.specs.Tokens.{differ}
 use Rattle.guards.specs.Payouts.{payout_token, payout_amount}
-use Rattle.fundings.specs.declared.facts.Facts.{Facts}
 use Rattle.reserves.specs.Reserves.{reserve_bounding_payout}
 use Rattle.entries.specs.declared.entry.Entry.{Entry}
 use Rattle.backings.specs.Marked.{uses, without, with_used}
 use Rattle.entries.specs.Entered.{Entered, entry_of}
-use Rattle.backings.specs.Tables.{equal_to, bounded_by, first_free}
+use Rattle.backings.specs.Tables.{equal_to, asked_by, first_free}
+use Rattle.backings.specs.declared.marks.Test.{Test}
+use Rattle.backings.specs.declared.marks.Test.TheVariants.{Equals, Bounds}
 use Rattle.backings.specs.declared.marks.Marks.{Marks as Coded}
 use Rattle.matching.specs.Matching.{Backing, Marks, equals, bounds, equal_cover, bounding_cover, take_backing, take_reserve, by_reserve, by_bounding, not_taken, by_equal, answer}
 use Rattle.matching.specs.Matching as matching
@@ -25,16 +26,17 @@ use Rattle.matching.specs.Matching.Reason.{split_without_amount, conflict_at_equ
 use Rattle.matching.specs.Matching.Answer.{cover, rejection}
 use Rattle.matching.specs.Standing.{marks_of, Stands, backings_of, backing_at}
 use Rattle.matching.specs.Prepared.{Ready, payout_at}
-use Rattle.matching.specs.Coded.{coded_cover, coded_reason, coded, after_cover, at_payout, equal_at, bounding_at, Answers, AnswersFor}
+use Rattle.matching.specs.Coded.{coded_cover, coded_reason, coded, after_cover, answered, equal_at, bounding_at, cover_at, step_by, next_step, Answers, AnswersFor}
 use Rattle.matching.specs.declared.answer.Cover.TheVariants.{EqualDebit, EqualParameter, BoundingDebit, BoundingParameter, Reserve}
 use Rattle.matching.specs.declared.answer.Cover.{Cover}
 use Rattle.matching.specs.declared.answer.Reason.{Reason}
 use Rattle.std.specs.Prelude.{Result, Ok, Err}
 use Rattle.matching.specs.declared.answer.Pass.{Pass}
-use Rattle.matching.proofs.Steps.{split_step, answer-step, equal-step, no-equal-step, taken_step, untaken-step, bounding-step, no-bounding-step, reserve-step, no-reserve-step, conflict-step}
+use Rattle.matching.specs.declared.payout.Payout.{Payout}
+use Rattle.matching.proofs.Steps.{passes, cover_by, conflict_by, split_step, answer-step, taken_step, untaken-step, backing-step, no-backing-step, reserve-step, no-reserve-step, conflict-step}
 use Rattle.matching.proofs.Steps.{take_step, used_step, unused-step}
 use Rattle.matching.proofs.Found.{free-some, free-none}
-use Rattle.matching.proofs.Answering.{equal-coded, bounding-coded, equals-amount, bounds-amount}
+use Rattle.matching.proofs.Answering.{cover-coded, passes-amount}
 use Rattle.matching.proofs.Covering.{cover-back, reason-back}
 use Rattle.matching.proofs.Kept.{backing-taken, reserve-taken}
 
@@ -59,12 +61,16 @@ module _ (m : Coded) (count i : ℕ) where
       go true e = rw e
       go false e = rw (e, behind (ltb-false i count e))
 
+  cover-takes : (t : Test) → after_cover m count (cover_at t count i) ≡ without m i
+  cover-takes Equals = equal-takes
+  cover-takes Bounds = bounding-takes
+
 -- the marks after a cover stand for those of the definition
 abbrev Good : List Backing → Coded → ℕ → matching.Answer → Type 0
 Good bs m count (cover c after) = Stands bs (after_cover m count (coded_cover c)) after
 Good bs m count (rejection r) = Unit {0}
 
-module _ (file : List ℕ) (en : Entry) (t : Entered file en) (m : Coded) (room : uses m < 64)
+module _ (file : List ℕ) (en : Entry) (entered : Entered file en) (m : Coded) (room : uses m < 64)
     (s : Marks) (v : Stands (backings_of file en.place) m s) (p : Field) where
   abbrev model : Fields
   model = fields file
@@ -99,7 +105,7 @@ module _ (file : List ℕ) (en : Entry) (t : Entered file en) (m : Coded) (room 
             rw (conflict-step s p tests taken c r e, conflict-step marks p tests taken c r e) (record { same = refl; good = tt })
         go false e =
             rw (take_step s p tests taken c r e, take_step marks p tests taken c r e)
-            (record { same = refl; good = rw k (backing-taken file en t m s v test tests agree i f) })
+            (record { same = refl; good = rw k (backing-taken file en entered m s v test tests agree i f) })
 
   -- a reserve is used
   fits-use : (i : ℕ) → Fits (take_reserve s i) (take_reserve marks i)
@@ -110,7 +116,7 @@ module _ (file : List ℕ) (en : Entry) (t : Entered file en) (m : Coded) (room 
       go true e = rw (used_step s i e, used_step marks i (rw v.used at e)) (record { same = refl; good = tt })
       go false e =
           rw (unused-step s i e, unused-step marks i (rw v.used at e))
-          (record { same = refl; good = reserve-taken file en t m s v i room })
+          (record { same = refl; good = reserve-taken file en entered m s v i room })
 
   fits-reserve : Fits (by_reserve model entry s p) (by_reserve model entry marks p)
   unfolding coded
@@ -120,22 +126,22 @@ module _ (file : List ℕ) (en : Entry) (t : Entered file en) (m : Coded) (room 
       go None e = rw (no-reserve-step model entry s p e, no-reserve-step model entry marks p e) (record { same = refl; good = tt })
       go (Some r) e = rw (reserve-step model entry s p r e, reserve-step model entry marks p r e) (fits-use (position (same_bytes r) (state_names model)))
 
-  -- the first free backing that bounds the amount, or the rest
-  fits-bounding : Fits (by_bounding model entry s p) (by_bounding model entry marks p)
+  -- the first free backing that passes a test, or the rest
+  fits-backing : (t : Test) → Fits (next_step t model entry s p) (next_step t model entry marks p) → Fits (step_by t model entry s p) (step_by t model entry marks p)
   unfolding marks_of
-  fits-bounding = go (first_free file en m (bounded_by (payout_amount p))) refl
+  fits-backing t rest = go (first_free file en m (asked_by t (payout_amount p))) refl
     where
-      go : (o : Option ℕ) → first_free file en m (bounded_by (payout_amount p)) ≡ o → Fits (by_bounding model entry s p) (by_bounding model entry marks p)
+      go : (o : Option ℕ) → first_free file en m (asked_by t (payout_amount p)) ≡ o → Fits (step_by t model entry s p) (step_by t model entry marks p)
       go (Some i) e =
-          let z = free-some file en t m (bounded_by (payout_amount p)) (bounds p) (bounds-amount p) i e in
+          let z = free-some file en entered m (asked_by t (payout_amount p)) (passes t p) (passes-amount t p) i e in
           rw (
-            bounding-step model entry s p (backing_at file en i) (ap (find (bounds p)) v.free ∙ z),
-            bounding-step model entry marks p (backing_at file en i) z,
-          ) (fits-take (bounded_by (payout_amount p)) (bounds p) (bounds-amount p) i e (bounding_cover (backing_at file en i))
-          (ap (after_cover m en.debits) (bounding-coded file en i) ∙ bounding-takes m en.debits i) conflict_at_bounding)
+            backing-step model entry s p t (backing_at file en i) (ap (find (passes t p)) v.free ∙ z),
+            backing-step model entry marks p t (backing_at file en i) z,
+          ) (fits-take (asked_by t (payout_amount p)) (passes t p) (passes-amount t p) i e (cover_by t (backing_at file en i))
+          (ap (after_cover m en.debits) (cover-coded file en i t) ∙ cover-takes m en.debits i t) (conflict_by t))
       go None e =
-          let z = free-none file en t m (bounded_by (payout_amount p)) (bounds p) (bounds-amount p) e in
-          rw (no-bounding-step model entry s p (ap (find (bounds p)) v.free ∙ z), no-bounding-step model entry marks p z) fits-reserve
+          let z = free-none file en entered m (asked_by t (payout_amount p)) (passes t p) (passes-amount t p) e in
+          rw (no-backing-step model entry s p t (ap (find (passes t p)) v.free ∙ z), no-backing-step model entry marks p t z) rest
 
   -- no taken backing may equal it
   fits-taken : Fits (not_taken model entry s p) (not_taken model entry marks p)
@@ -148,31 +154,14 @@ module _ (file : List ℕ) (en : Entry) (t : Entered file en) (m : Coded) (room 
           (record { same = refl; good = tt })
       go false e =
           rw (untaken-step model entry s p e, untaken-step model entry marks p (sym (v.taken (equal_to (payout_amount p))) ∙ e))
-          fits-bounding
-
-  -- the first free one that equals it
-  fits-equal : Fits (by_equal model entry s p) (by_equal model entry marks p)
-  unfolding marks_of
-  fits-equal = go (first_free file en m (equal_to (payout_amount p))) refl
-    where
-      go : (o : Option ℕ) → first_free file en m (equal_to (payout_amount p)) ≡ o → Fits (by_equal model entry s p) (by_equal model entry marks p)
-      go (Some i) e =
-          let z = free-some file en t m (equal_to (payout_amount p)) (equals p) (equals-amount p) i e in
-          rw (
-            equal-step model entry s p (backing_at file en i) (ap (find (equals p)) v.free ∙ z),
-            equal-step model entry marks p (backing_at file en i) z,
-          ) (fits-take (equal_to (payout_amount p)) (equals p) (equals-amount p) i e (equal_cover (backing_at file en i))
-          (ap (after_cover m en.debits) (equal-coded file en i) ∙ equal-takes m en.debits i) conflict_at_equal)
-      go None e =
-          let z = free-none file en t m (equal_to (payout_amount p)) (equals p) (equals-amount p) e in
-          rw (no-equal-step model entry s p (ap (find (equals p)) v.free ∙ z), no-equal-step model entry marks p z) fits-taken
+          (fits-backing Bounds fits-reserve)
 
   fits-answer : Fits (answer model entry s p) (answer model entry marks p)
   unfolding coded
   fits-answer = go (present (payout_amount p)) refl
     where
       go : (d : Bool) → present (payout_amount p) ≡ d → Fits (answer model entry s p) (answer model entry marks p)
-      go true e = rw (answer-step model entry s p e, answer-step model entry marks p e) fits-equal
+      go true e = rw (answer-step model entry s p e, answer-step model entry marks p e) (fits-backing Equals fits-taken)
       go false e = rw (split_step model entry s p e, split_step model entry marks p e) (record { same = refl; good = tt })
 
   -- all of it: a cover is taken, and a rejection changes nothing
@@ -211,15 +200,21 @@ module _ (file : List ℕ) (en : Entry) (t : Entered file en) (m : Coded) (room 
             }
 
 -- and for all marks that the code's stand for
-module _ (file : List ℕ) (en : Entry) (facts : Facts) (pass : Pass) (k : ℕ) (w : Ready file en facts pass k)
-    (r : Result Cover Reason) (e : r ≡ coded (at_payout answer file en pass.marks k)) (between left : Coded) (same : between ≡ pass.marks) where
+module _ (file : List ℕ) (p : Payout) (pass : Pass) (w : Ready file p pass)
+    (r : Result Cover Reason) (e : r ≡ answered answer file p pass.marks) (between left : Coded) (same : between ≡ pass.marks) where
+  abbrev en : Entry
+  en = p.entry.now
+
+  abbrev k : ℕ
+  k = p.k
+
   pub covered-all : (c : Cover) → r ≡ Ok c → left ≡ after_cover between en.debits c → AnswersFor file en pass.marks k (Ok c) left
   covered-all c g f before v =
-      rw (← g) (answers_covered file en w.prepared.entered pass.marks w.room before v (payout_at file en k) r e c g left (f ∙ ap (λ m. after_cover m en.debits c) same))
+      rw (← g) (answers_covered file en w.entered pass.marks w.room before v (payout_at file en k) r e c g left (f ∙ ap (λ m. after_cover m en.debits c) same))
 
   pub rejected-all : (q : Reason) → r ≡ Err q → AnswersFor file en pass.marks k (Err q) between
   rejected-all q g before v =
-      rw (← g, same) (answers_rejected file en w.prepared.entered pass.marks w.room before v (payout_at file en k) r e q g)
+      rw (← g, same) (answers_rejected file en w.entered pass.marks w.room before v (payout_at file en k) r e q g)
 
 -- one more reserve at most
 with-uses : (m : Coded) (i : ℕ) → uses (with_used m i) ≤ uses m + 1

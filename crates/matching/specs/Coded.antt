@@ -6,13 +6,16 @@ use Rattle.entries.specs.Entered.{entry_of}
 use Rattle.entries.specs.declared.entry.Entry.{Entry}
 use Rattle.backings.specs.Marked.{without, with_used}
 use Rattle.backings.specs.declared.marks.Marks.{Marks as Coded}
-use Rattle.matching.specs.Matching.{Backing, Marks, answer}
+use Rattle.backings.specs.declared.marks.Test.{Test}
+use Rattle.backings.specs.declared.marks.Test.TheVariants.{Equals, Bounds}
+use Rattle.matching.specs.Matching.{Backing, Marks, by_equal, not_taken, by_bounding, by_reserve, answer}
 use Rattle.matching.specs.Matching as matching
 use Rattle.matching.specs.Matching.Cover.{equal_debit, equal_parameter, bounding_debit, bounding_parameter, reserve}
 use Rattle.matching.specs.Matching.Reason.{split_without_amount, conflict_at_equal, amount_taken, conflict_at_bounding, no_reserve, reserve_used}
 use Rattle.matching.specs.Matching.Answer.{cover, rejection}
 use Rattle.matching.specs.Standing.{backings_of, marks_of, Stands}
 use Rattle.matching.specs.Prepared.{payout_at}
+use Rattle.matching.specs.declared.payout.Payout.{Payout}
 use Rattle.matching.specs.declared.answer.Cover.{Cover}
 use Rattle.matching.specs.declared.answer.Cover.TheVariants.{EqualDebit, EqualParameter, BoundingDebit, BoundingParameter, Reserve}
 use Rattle.matching.specs.declared.answer.Reason.{Reason}
@@ -85,6 +88,25 @@ equal_at count i = cond (ltb i count) (EqualDebit i) (EqualParameter (i - count)
 unfoldable pub bounding_at : (count i : ℕ) → Cover
 bounding_at count i = cond (ltb i count) (BoundingDebit i) (BoundingParameter (i - count))
 
+-- by the test that it passes
+abbrev pub cover_at : Test → (count i : ℕ) → Cover
+cover_at Equals = equal_at
+cover_at Bounds = bounding_at
+
+-- why a payout is rejected whose token and that of such a backing conflict
+abbrev pub conflict_at : Test → Reason
+conflict_at Equals = ConflictAtEqual
+conflict_at Bounds = ConflictAtBounding
+
+-- the step of the definition by which such a backing decides, and the one that follows where there is none
+abbrev pub step_by : Test → Fields → Field → Marks → Field → matching.Answer
+step_by Equals = by_equal
+step_by Bounds = by_bounding
+
+abbrev pub next_step : Test → Fields → Field → Marks → Field → matching.Answer
+next_step Equals = not_taken
+next_step Bounds = by_reserve
+
 -- the answer by the reserve at an index, which may be used
 unfoldable pub reserve_at : Coded → ℕ → Result Cover Reason
 reserve_at m i = cond (any (eqb i) m.used.items) (Err ReserveUsed) (Ok (Reserve i))
@@ -92,6 +114,10 @@ reserve_at m i = cond (any (eqb i) m.used.items) (Err ReserveUsed) (Ok (Reserve 
 -- a step of the definition, for the k-th payout of an entry and the marks that the code's stand for
 abbrev pub at_payout : (Fields → Field → Marks → Field → matching.Answer) → List ℕ → Entry → Coded → ℕ → matching.Answer
 at_payout step file e m k = step (fields file) (entry_of file e.place) (marks_of (backings_of file e.place) m) (payout_at file e k)
+
+-- the code's answer by such a step, for a payout
+abbrev pub answered : (Fields → Field → Marks → Field → matching.Answer) → List ℕ → Payout → Coded → Result Cover Reason
+answered step file p m = coded (at_payout step file p.entry.now m p.k)
 
 -- the code's answer, and its marks after it, are those that the definition gives for a payout, whatever the order in which its
 -- marks stand

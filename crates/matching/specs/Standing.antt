@@ -6,7 +6,7 @@ use Rattle.fields.specs.Field.{Field, fields}
 use Rattle.entries.specs.declared.entry.Entry.{Entry}
 use Rattle.backings.specs.Marked.{free_at, taken_at}
 use Rattle.entries.specs.Entered.{entry_of}
-use Rattle.backings.specs.Tables.{backing_in, amount_in, token_at}
+use Rattle.backings.specs.Tables.{amount_in, token_at}
 use Rattle.backings.specs.declared.marks.Marks.{Marks as Coded}
 use Rattle.matching.specs.Matching.{Backing, Marks, backings}
 use Rattle.matching.specs.Matching.Source.{debit, parameter}
@@ -21,7 +21,7 @@ backing_at file e i =
     record {
       source = cond (ltb i e.debits) debit parameter;
       index = cond (ltb i e.debits) i (i - e.debits);
-      amount = amount_in file (backing_in e.backed e.debits i);
+      amount = amount_in file e i;
       token = token_at file e i;
     }
 

@@ -1,21 +1,19 @@
 // SPDX-License-Identifier: Apache-2.0 OR MIT
 // The answer for one payout: a cover or a rejection. The steps are those of the rules, each of which decides or leaves the payout
-// to the next. A scratch table is lent, with a number for each three bytes of the file.
-ghost use Rattle.std.specs.Prelude.{◌≡◌, ◌+◌, ◌*◌, ◌≤◌, length, get_or, drop, None};
-ghost use Rattle.reserves.specs.Holding.{FactsOf};
+// to the next.
+ghost use Rattle.std.specs.Prelude.{◌≡◌, ◌+◌, ◌≤◌, None, unwrap_or};
+ghost use Rattle.reserves.specs.Reading.{file_of};
 ghost use Rattle.backings.specs.Marked.{all_free, uses};
 ghost use Rattle.backings.specs.Tables.{Admitted};
-ghost use Rattle.matching.specs.Matching.{by_reserve, by_bounding, not_taken, by_equal, answer};
+ghost use Rattle.matching.specs.Matching.{by_reserve, answer};
 ghost use Rattle.matching.specs.Prepared.{Ready};
-ghost use Rattle.matching.specs.Coded.{coded, at_payout, equal_at, bounding_at, reserve_at, after_cover, AnswersFor, reason_number};
+ghost use Rattle.matching.specs.Coded.{answered, step_by, next_step, cover_at, conflict_at, reserve_at, after_cover, AnswersFor, reason_number};
 
+use super::payout::Payout;
 use backings::backing::tokens_conflict;
-use backings::marks::Marks;
-use entries::entry::Entry;
-use fields::bytes::skip;
-use fundings::facts::Facts;
+use backings::marks::{Marks, Test};
 use guards::payout::payout_amount;
-use reserves::covering::reserve_bounding_payout;
+use reserves::reading::Reading;
 use walking::shape::is_present;
 
 // A cover is one of five kinds, with an index among debits, asset parameters or state fields.
@@ -43,6 +41,7 @@ impl From<Reason> for usize {
     ghost from_gives = { λ reason number. number ≡ reason_number reason };
 
     fn from(reason: Reason) -> usize {
+        // The discriminant is the rules' number.
         reason as usize
     }
 }
@@ -50,45 +49,26 @@ impl From<Reason> for usize {
 // The answer for one payout.
 pub type Answer = Result<Cover, Reason>;
 
-// The cover by backing number i, which equals the amount.
-#[tactic(auto, unfolding(crate::specs::Coded::equal_at))]
-fn equal_cover(debits: usize, i: usize) -> Cover
-    ensures { result ≡ equal_at debits i }
+// The cover by backing number i, the first free one that passes a test.
+#[tactic(auto, unfolding(crate::specs::Coded::equal_at, crate::specs::Coded::bounding_at))]
+fn cover_at(test: Test, debits: usize, i: usize) -> Cover
+    ensures { result ≡ cover_at test debits i }
 {
-    match i.checked_sub(debits) {
-        Some(index) => Cover::EqualParameter { index },
-        None => Cover::EqualDebit { index: i },
+    match (test, i.checked_sub(debits)) {
+        (Test::Equals, None) => Cover::EqualDebit { index: i },
+        (Test::Equals, Some(index)) => Cover::EqualParameter { index },
+        (Test::Bounds, None) => Cover::BoundingDebit { index: i },
+        (Test::Bounds, Some(index)) => Cover::BoundingParameter { index },
     }
 }
 
-// The cover by backing number i, which bounds it.
-#[tactic(auto, unfolding(crate::specs::Coded::bounding_at))]
-fn bounding_cover(debits: usize, i: usize) -> Cover
-    ensures { result ≡ bounding_at debits i }
+// Why a payout is rejected whose token and that of such a backing conflict.
+fn conflict_at(test: Test) -> Reason
+    ensures { result ≡ conflict_at test }
 {
-    match i.checked_sub(debits) {
-        Some(index) => Cover::BoundingParameter { index },
-        None => Cover::BoundingDebit { index: i },
-    }
-}
-
-// The k-th payout of an entry of a file.
-#[derive(Clone, Copy)]
-pub struct Payout<'a> {
-    pub file: &'a [u8],
-    pub entry: &'a Entry,
-    pub k: usize,
-}
-
-impl<'a> Payout<'a> {
-    // The part of the file that starts with it, by the places of the entry's payouts.
-    fn part(&self) -> &'a [u8]
-        ensures { result.now ≡ drop (get_or self.now.entry.now.paid self.now.k 0) self.now.file.now }
-    {
-        skip(
-            self.file,
-            usize::from(self.entry.paid.get(self.k).copied().unwrap_or(0)),
-        )
+    match test {
+        Test::Equals => Reason::ConflictAtEqual,
+        Test::Bounds => Reason::ConflictAtBounding,
     }
 }
 
@@ -140,107 +120,76 @@ impl Pass {
     }
 
     // The first covering reserve, rejecting if there is none or it is used.
-    fn by_reserve(&self, payout: &Payout, facts: &mut Facts, scratch: &mut [u16]) -> Answer
-        requires ready { Ready payout.now.file.now payout.now.entry.now facts.old self.now payout.now.k }
-        requires scratch { length payout.now.file.now ≤ 3 * length scratch.old }
-        ensures answers { result ≡ coded (at_payout by_reserve payout.now.file.now payout.now.entry.now self.now.marks payout.now.k) }
-        ensures facts { FactsOf payout.now.file.now facts.new }
+    fn by_reserve(&self, payout: &Payout, reading: &mut Reading) -> Answer
+        requires { Ready (file_of reading.old) payout.now self.now }
+        ensures same_file { file_of reading.new ≡ file_of reading.old }
+        ensures answers { result ≡ answered by_reserve (file_of reading.old) payout.now self.now.marks }
     {
-        let Payout { file, entry, k } = *payout;
-        let reserve = reserve_bounding_payout(file, *entry, k, facts, scratch);
+        let reserve = reading.reserve_bounding_payout(payout.entry, payout.k);
         let index = reserve.ok_or(Reason::NoReserve)?;
         self.by_reserve_at(index)
     }
 
-    // The first free backing that bounds the amount, rejecting if its token and the payout's conflict: no other one is tried then.
-    // Else a reserve.
-    fn by_bounding(&mut self, payout: &Payout, facts: &mut Facts, scratch: &mut [u16]) -> Answer
-        requires ready { Ready payout.now.file.now payout.now.entry.now facts.old self.old payout.now.k }
-        requires scratch { length payout.now.file.now ≤ 3 * length scratch.old }
-        ensures answers { result ≡ coded (at_payout by_bounding payout.now.file.now payout.now.entry.now self.old.marks payout.now.k) }
-        ensures facts { FactsOf payout.now.file.now facts.new }
+    // The answer by the first free backing that passes a test, rejecting if its token and the payout's conflict: no other one is tried
+    // then. None where there is no such backing: the next step of the rules decides.
+    fn by_backing(
+        &mut self,
+        test: Test,
+        payout: &Payout,
+        reading: &mut Reading,
+    ) -> Option<Answer>
+        requires { Ready (file_of reading.old) payout.now self.old }
+        ensures same_file { file_of reading.new ≡ file_of reading.old }
+        ensures answers { unwrap_or result (answered (next_step test) (file_of reading.old) payout.now self.old.marks)
+            ≡ answered (step_by test) (file_of reading.old) payout.now self.old.marks }
         ensures marks { self.new.marks ≡ self.old.marks }
-        ensures admits { Admitted payout.now.file.now payout.now.entry.now.place self.new.admitted }
+        ensures admits { Admitted (file_of reading.old) payout.now.entry.now.place self.new.admitted }
     {
-        let Payout { file, entry, k: _ } = *payout;
-        let part = payout.part();
-        let Some(i) = self.marks.first_bounding(file, entry, part) else {
-            return self.by_reserve(payout, facts, scratch);
-        };
-        if tokens_conflict(file, entry, i, part, facts, &mut self.admitted, scratch) {
-            return Err(Reason::ConflictAtBounding);
+        let entry = payout.entry;
+        let file = reading.facts.file;
+        let part = payout.part(file);
+        let i = self.marks.first_free(file, entry, test, part)?;
+        if tokens_conflict(reading, entry, i, part, &mut self.admitted) {
+            return Some(Err(conflict_at(test)));
         }
-        Ok(bounding_cover(entry.debits, i))
+        Some(Ok(cover_at(test, entry.debits, i)))
     }
 
-    // Rejects if a taken backing equals the amount. Else one that bounds it, or a reserve.
-    fn not_taken(&mut self, payout: &Payout, facts: &mut Facts, scratch: &mut [u16]) -> Answer
-        requires ready { Ready payout.now.file.now payout.now.entry.now facts.old self.old payout.now.k }
-        requires scratch { length payout.now.file.now ≤ 3 * length scratch.old }
-        ensures answers { result ≡ coded (at_payout not_taken payout.now.file.now payout.now.entry.now self.old.marks payout.now.k) }
-        ensures facts { FactsOf payout.now.file.now facts.new }
+    // Rejects a split without an amount. Else a free backing that equals the amount decides; then one that is taken rejects; then a
+    // free one that bounds it decides, and at last a reserve.
+    fn cover_payout(&mut self, payout: &Payout, reading: &mut Reading) -> Answer
+        requires { Ready (file_of reading.old) payout.now self.old }
+        ensures same_file { file_of reading.new ≡ file_of reading.old }
+        ensures answers { result ≡ answered answer (file_of reading.old) payout.now self.old.marks }
         ensures marks { self.new.marks ≡ self.old.marks }
-        ensures admits { Admitted payout.now.file.now payout.now.entry.now.place self.new.admitted }
+        ensures admits { Admitted (file_of reading.old) payout.now.entry.now.place self.new.admitted }
     {
-        if self
-            .marks
-            .is_taken(payout.file, payout.entry, payout.part())
-        {
-            return Err(Reason::AmountTaken);
-        }
-        self.by_bounding(payout, facts, scratch)
-    }
-
-    // The first free backing that equals the amount, rejecting if the tokens conflict. Else the rest.
-    fn by_equal(&mut self, payout: &Payout, facts: &mut Facts, scratch: &mut [u16]) -> Answer
-        requires ready { Ready payout.now.file.now payout.now.entry.now facts.old self.old payout.now.k }
-        requires scratch { length payout.now.file.now ≤ 3 * length scratch.old }
-        ensures answers { result ≡ coded (at_payout by_equal payout.now.file.now payout.now.entry.now self.old.marks payout.now.k) }
-        ensures facts { FactsOf payout.now.file.now facts.new }
-        ensures marks { self.new.marks ≡ self.old.marks }
-        ensures admits { Admitted payout.now.file.now payout.now.entry.now.place self.new.admitted }
-    {
-        let Payout { file, entry, k: _ } = *payout;
-        let part = payout.part();
-        let Some(i) = self.marks.first_equal(file, entry, part) else {
-            return self.not_taken(payout, facts, scratch);
-        };
-        if tokens_conflict(file, entry, i, part, facts, &mut self.admitted, scratch) {
-            return Err(Reason::ConflictAtEqual);
-        }
-        Ok(equal_cover(entry.debits, i))
-    }
-
-    // Rejects a split without an amount. Else the steps above.
-    fn cover_payout(&mut self, payout: &Payout, facts: &mut Facts, scratch: &mut [u16]) -> Answer
-        requires ready { Ready payout.now.file.now payout.now.entry.now facts.old self.old payout.now.k }
-        requires scratch { length payout.now.file.now ≤ 3 * length scratch.old }
-        ensures answers { result ≡ coded (at_payout answer payout.now.file.now payout.now.entry.now self.old.marks payout.now.k) }
-        ensures facts { FactsOf payout.now.file.now facts.new }
-        ensures marks { self.new.marks ≡ self.old.marks }
-        ensures admits { Admitted payout.now.file.now payout.now.entry.now.place self.new.admitted }
-    {
-        if !is_present(payout_amount(payout.part())) {
+        let file = reading.facts.file;
+        let part = payout.part(file);
+        if !is_present(payout_amount(part)) {
             return Err(Reason::SplitWithoutAmount);
         }
-        self.by_equal(payout, facts, scratch)
+        if let Some(answer) = self.by_backing(Test::Equals, payout, reading) {
+            return answer;
+        }
+        if self.marks.is_taken(file, payout.entry, part) {
+            return Err(Reason::AmountTaken);
+        }
+        if let Some(answer) = self.by_backing(Test::Bounds, payout, reading) {
+            return answer;
+        }
+        self.by_reserve(payout, reading)
     }
 
-    // The answer for the k-th payout. A cover is taken.
-    pub fn answer_payout(
-        &mut self,
-        payout: &Payout,
-        facts: &mut Facts,
-        scratch: &mut [u16],
-    ) -> Answer
-        requires ready { Ready payout.now.file.now payout.now.entry.now facts.old self.old payout.now.k }
-        requires scratch { length payout.now.file.now ≤ 3 * length scratch.old }
-        ensures answers { AnswersFor payout.now.file.now payout.now.entry.now self.old.marks payout.now.k result self.new.marks }
+    // The answer for a payout. A cover is taken.
+    pub fn answer_payout(&mut self, payout: &Payout, reading: &mut Reading) -> Answer
+        requires { Ready (file_of reading.old) payout.now self.old }
+        ensures same_file { file_of reading.new ≡ file_of reading.old }
+        ensures answers { AnswersFor (file_of reading.old) payout.now.entry.now self.old.marks payout.now.k result self.new.marks }
         ensures uses { uses self.new.marks ≤ uses self.old.marks + 1 }
-        ensures facts { FactsOf payout.now.file.now facts.new }
-        ensures admits { Admitted payout.now.file.now payout.now.entry.now.place self.new.admitted }
+        ensures admits { Admitted (file_of reading.old) payout.now.entry.now.place self.new.admitted }
     {
-        let cover = self.cover_payout(payout, facts, scratch)?;
+        let cover = self.cover_payout(payout, reading)?;
         self.take(payout.entry.debits, cover);
         Ok(cover)
     }

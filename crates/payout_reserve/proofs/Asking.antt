@@ -1,19 +1,19 @@
 -- A "no" to one of questions 1 to 9 is the answer; past them it is the reserve of the payout, by its number.
 use Rattle.std.proofs.Common.{ℕ, ◌≡◌, refl, List, le-ltb, lt-ltb, length}
 use Rattle.std.proofs.Common.{Option, None, Some, Result, Ok, Err}
+use Rattle.std.specs.Option.{ok_or}
 use Rattle.fields.specs.Field.{Fields, fields}
 use Rattle.model.specs.Model.{entries}
 use Rattle.questions.specs.Questions.{ask_file}
 use Rattle.questions.specs.Answers.{Answered, asked}
 use Rattle.questions.specs.declared.question.Refusal.{Refusal}
-use Rattle.questions.specs.declared.question.Question.TheVariants.{EntryNumber}
 use Rattle.entries.specs.Entered.{entry_of}
 use Rattle.reserves.specs.Covers.{index_in}
 use Rattle.claim.specs.Reserve.{payout_reserve}
 use Rattle.claim.specs.Verdict.{entry_at}
 use Rattle.claim.proofs.Fitting.{answered-passes}
-use Rattle.verdict.specs.Place.{place_of_entry}
-use Rattle.verdict.proofs.Asking.{entry-missing, entry-counted, entry-there}
+use Rattle.verdict.specs.Place.{place_of_entry, no_entry}
+use Rattle.verdict.proofs.Asking.{entry-missing, entry-counted, entry-there, place-missing, place-found}
 use Rattle.payout_reserve.specs.Answer.{covered_by, entry_reserve, file_reserve, answer_of}
 
 -- the state field that was found, or none
@@ -24,18 +24,23 @@ told-found model (Some r) = refl
 
 -- Question 9
 
-module _ (file : List ℕ) (n k : ℕ) (s : Option ℕ) (e : s ≡ place_of_entry file n) where
-  pub entry-nowhere : s ≡ None → (d : Refusal) → d ≡ record { question = EntryNumber; place = 0 } → answer_of (Err d) ≡ entry_reserve (fields file) n k
+module _ (file : List ℕ) (n k : ℕ) (q : Result ℕ Refusal) (e : q ≡ ok_or (place_of_entry file n) no_entry) where
+  pub entry-nowhere : (d : Refusal) → q ≡ Err d → answer_of (Err d) ≡ entry_reserve (fields file) n k
   unfolding entry_reserve
-  entry-nowhere f d g = rw g (cc (le-ltb n (length (entries (fields file))) (entry-missing file n s e f)))
+  entry-nowhere d f =
+      let none = place-missing file n q e d f in
+      rw none.1 (cc (le-ltb n (length (entries (fields file))) (entry-missing file n (place_of_entry file n) refl none.0)))
 
-  module _ (place : ℕ) (f : s ≡ Some place) (r : Option ℕ) (g : r ≡ index_in (fields file) (payout_reserve (fields file) (entry_of file place) k)) where
+  module _ (place : ℕ) (f : q ≡ Ok place) (r : Option ℕ) (g : r ≡ index_in (fields file) (payout_reserve (fields file) (entry_of file place) k)) where
+    some : place_of_entry file n ≡ Some place
+    some = place-found file n q e place f
+
     past : entry_reserve (fields file) n k ≡ covered_by (fields file) (payout_reserve (fields file) (entry_at (fields file) n).this k)
     unfolding entry_reserve
-    past = cc (lt-ltb n (length (entries (fields file))) (entry-counted file n s e place f))
+    past = cc (lt-ltb n (length (entries (fields file))) (entry-counted file n (place_of_entry file n) refl place some))
 
     pub entry-answered : answer_of (Ok r) ≡ entry_reserve (fields file) n k
-    entry-answered = rw (past, entry-there file n s e place f, g) (told-found _ _)
+    entry-answered = rw (past, entry-there file n (place_of_entry file n) refl place some, g) (told-found _ _)
 
 -- Questions 1 to 8
 

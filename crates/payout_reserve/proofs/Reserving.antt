@@ -1,8 +1,9 @@
 -- A payout that is not there asks for no token, so that no state field covers it; one that is there stands at its place in the
 -- table, which has room for all.
-use Rattle.std.proofs.Common.{ℕ, ◌≤◌, ◌<◌, ◌≡◌, refl, ap, ◌∙◌, false, ◌&&◌, List, [], arith, length, get_or, set, replicate, take, get_or-take, length-take-le}
+use Rattle.std.proofs.Common.{ℕ, ◌≤◌, ◌<◌, ◌≡◌, refl, ap, ◌∙◌, false, ◌&&◌, List, [], ◌∷◌, arith, length, get_or, set, replicate, take, get_or-take, length-take-le}
 use mathlib.Core.Bool.{and-false}
 use Rattle.std.proofs.Common.{Option, None}
+use Rattle.std.proofs.lemmas.List.{get_or_default}
 use lib.ListN.{length-replicate, get_or-eq_default}
 use Rattle.laws.specs.Texts.{known, same_bytes}
 use Rattle.laws.specs.Lists.{any}
@@ -56,11 +57,9 @@ module _ (file : List ℕ) (place : ℕ) (small : length file ≤ 32768) where
       (calls : List ℕ) → calls ≡ take body.count body.items.now → CallsOf file place calls
   all-calls inside body l calls e = calls-all file place (replicate most_fields 0) (table-lent inside) body l calls e
 
-pub alone-asked : (file payouts : List ℕ) (place k x : ℕ) → x ≡ get_or payouts k 0 → (r : Option ℕ) →
-    r ≡ asked_reserve file place (set (replicate 65 0) 0 x) 0 →
-    r ≡ asked_reserve file place payouts k
+pub alone-asked : (file : List ℕ) (place x : ℕ) (r : Option ℕ) → r ≡ asked_reserve file place (set (replicate 65 0) 0 x) 0 → r ≡ asked_reserve file place (x ∷ []) 0
 unfolding asked_token asked_amount
-alone-asked file payouts place k x e r f = rw (← e) f
+alone-asked file place x r f = f
 
 -- The payout at its place
 
@@ -75,21 +74,23 @@ module _ (file : List ℕ) (place : ℕ) (calls : List ℕ) (c : CallsOf file pl
   counted : m ≡ length (payouts entry)
   counted = where-counted file place calls c is_payout payout-call (replicate most_fields 0) table m p ∙ ap length (payouts-where (placed_at file place))
 
-  pub payout-missing : (k : ℕ) → m ≤ k → None ≡ index_in model (payout_reserve model entry k)
-  payout-missing k h = unpaid model entry k (get_or-eq_default (payouts entry) nothing (omega (arith, h, counted)))
-
   few : m ≤ length (replicate {A = ℕ} most_fields 0)
   few = omega (arith, length-replicate {A = ℕ} most_fields 0, places-few file place calls c is_payout (replicate most_fields 0) table m p, c.small)
 
   read : fields_at file (take m table) ≡ payouts entry
   read = where-read file place calls c is_payout payout-call (replicate most_fields 0) table m p few ∙ payouts-where (placed_at file place)
 
-  module _ (ps : List ℕ) (e : ps ≡ take m table) (k : ℕ) (h : k < m) where
-    pub payout-among : k < length ps
-    payout-among = rw e (omega (arith, h, length-take-le m table (table-long file table m (payouts entry) read counted)))
+  module _ (ps : List ℕ) (e : ps ≡ take m table) (k : ℕ) where
+    listed : length ps ≡ m
+    listed = rw e (length-take-le m table (table-long file table m (payouts entry) read counted))
 
-    pub payout-found : (r : Option ℕ) → r ≡ asked_reserve file place ps k → r ≡ index_in model (payout_reserve model entry k)
+    pub payout-missing : length ps ≤ k → None ≡ index_in model (payout_reserve model entry k)
+    payout-missing h = unpaid model entry k (get_or-eq_default (payouts entry) nothing (omega (arith, h, listed, counted)))
+
+    pub payout-found : k < length ps → (x : ℕ) → x ≡ get_or ps k x → (r : Option ℕ) → r ≡ asked_reserve file place (x ∷ []) 0 →
+        r ≡ index_in model (payout_reserve model entry k)
     unfolding payout_reserve asked_token asked_amount paid_at
-    payout-found r j =
-        let same : get_or ps k 0 ≡ get_or table k 0 = rw e (get_or-take m table k 0 h) in
-        j ∙ rw (same, field-there file table m (payouts entry) read counted k h)
+    payout-found l x g r j =
+        let h : k < m = omega (arith, l, listed) in
+        let there : x ≡ get_or table k 0 = g ∙ get_or_default ps k x 0 l ∙ rw e (get_or-take m table k 0 h) in
+        j ∙ rw (there, field-there file table m (payouts entry) read counted k h)

@@ -3,7 +3,7 @@
 // decides, and uses it up. The questions about the file and the entry come first, as they do before a verdict.
 #![tactic(auto)]
 
-ghost use Rattle.std.specs.Prelude.{◌≡◌, ◌≤◌, ◌<◌, length};
+ghost use Rattle.std.specs.Prelude.{◌≡◌, ◌≤◌, [], ◌∷◌, length};
 ghost use Rattle.fields.specs.Field.{fields};
 ghost use Rattle.reserves.specs.Covers.{index_in, asked_reserve};
 ghost use Rattle.entries.specs.Entered.{entry_of, CallsOf};
@@ -14,21 +14,20 @@ use entries::calls::list_where;
 use entries::entry::Entry;
 use fundings::facts::nothing_known;
 use questions::file::check_file;
-use questions::question::{Question, Refusal};
-use reserves::covering::reserve_bounding_payout;
+use questions::question::Refusal;
+use reserves::reading::Reading;
 use tags::CALL;
-use verdict::entry::place_of_entry;
+use verdict::entry::place_or_refusal;
 use walking::shape::is_payout;
 use walking::walk::{MOST_FIELDS, list_body};
 
-// That of the k-th payout of a table, in the entry at a place of the file, by itself.
-fn reserve_for(file: &[u8], place: usize, payouts: &[u16], k: usize) -> Option<usize>
-    requires short { length file.now ≤ 32768 }
-    requires among { k < length payouts.now }
-    ensures { result ≡ asked_reserve file.now place payouts.now k }
+// That of the payout at a place, in the entry at another place of the file, by itself.
+fn reserve_for(file: &[u8], place: usize, payout: u16) -> Option<usize>
+    requires { length file.now ≤ 32768 }
+    ensures { result ≡ asked_reserve file.now place (payout ∷ []) 0 }
 {
     let mut paid = [0u16; 65];
-    paid[0] = payouts[k];
+    paid[0] = payout;
     let entry = Entry {
         place: place,
         debits: 0,
@@ -37,9 +36,9 @@ fn reserve_for(file: &[u8], place: usize, payouts: &[u16], k: usize) -> Option<u
         backed: [0u16; 64],
         paid: paid,
     };
-    let mut facts = nothing_known();
+    let mut facts = nothing_known(file);
     let mut scratch = [0u16; MOST_FIELDS];
-    reserve_bounding_payout(file, entry, 0, &mut facts, &mut scratch)
+    Reading::new(&mut facts, &mut scratch).reserve_bounding_payout(&entry, 0)
 }
 
 // That of the k-th payout among the calls of the entry at a place of the file.
@@ -49,10 +48,8 @@ fn reserve_among(file: &[u8], place: usize, calls: &[u16], k: usize) -> Option<u
 {
     let mut table = [0u16; MOST_FIELDS];
     let payouts = list_where(file, calls, is_payout, &mut table);
-    if payouts.count <= k {
-        return None;
-    }
-    reserve_for(file, place, payouts.listed(), k)
+    let payout = payouts.listed().get(k)?;
+    reserve_for(file, place, *payout)
 }
 
 // That of the k-th payout of the entry at a place of the file. There is room for every call of a file that passes question 1,
@@ -75,10 +72,7 @@ fn entry_reserve(file: &[u8], n: usize, k: usize) -> ReserveAnswer
     requires { length file.now ≤ 32768 }
     ensures { answer_of result ≡ entry_reserve (fields file.now) n k }
 {
-    let place = place_of_entry(file, n).ok_or(Refusal {
-        question: Question::EntryNumber,
-        place: 0,
-    })?;
+    let place = place_or_refusal(file, n)?;
     Ok(reserve_at(file, place, k))
 }
 

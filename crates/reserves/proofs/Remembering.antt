@@ -4,25 +4,28 @@ use Rattle.std.proofs.Common.{length, get_or, slice_set, replicate, length-set, 
 use lib.ListN.{length-replicate, get_or-replicate, get_or-eq_default}
 use borrow.Author.Tests.{eqb-false}
 use Rattle.fields.specs.Field.{fields}
-use Rattle.tokens.specs.Numbers.{not_yet}
+use Rattle.fundings.specs.Remembered.{not_yet, state_fields}
 use Rattle.reserve_tokens.specs.ReserveTokens.{reserve_token}
 use Rattle.reserve_tokens.specs.Numbers.{reserve_number}
-use Rattle.fundings.specs.Funded.{Relisted, remembered_at, state_fields}
+use Rattle.fundings.specs.Funded.{remembered_at}
 use Rattle.fundings.specs.declared.facts.Facts.{Facts}
 use Rattle.reserves.specs.States.{state_name}
 use Rattle.reserves.specs.Holding.{is_token, holds_token, FactsOf, Numbered}
 
 -- where nothing is worked out yet, nothing is wrong
-pub facts-none : (file : List ℕ) (facts : Facts) → facts.listed ≡ false → facts.held ≡ replicate state_fields not_yet → FactsOf file facts
+pub facts-none : (facts : Facts) → facts.held ≡ replicate state_fields not_yet → FactsOf facts
 unfolding remembered_at
-facts-none file facts l e = record { funded = record { listed = λ h. cc (l, h) }; right = λ i n h. cc (rw (e, all-alike i (ltb i state_fields) refl) at h) }
+facts-none facts e = record { right = λ i n h. cc (rw (e, all-alike i (ltb i state_fields) refl) at h) }
   where
     all-alike : (i : ℕ) (b : Bool) → ltb i state_fields ≡ b → get_or {A = ℕ} (replicate state_fields not_yet) i not_yet ≡ not_yet
     all-alike i true h = get_or-replicate state_fields i not_yet not_yet (ltb-true i state_fields h)
     all-alike i false h =
         get_or-eq_default (replicate {A = ℕ} state_fields not_yet) not_yet {n = i} (omega (arith, ltb-false i state_fields h, length-replicate {A = ℕ} state_fields not_yet))
 
-module _ (file : List ℕ) (facts : Facts) (v : FactsOf file facts) (index number : ℕ) where
+module _ (facts : Facts) (v : FactsOf facts) (index number : ℕ) where
+  abbrev file : List ℕ
+  file = facts.file.now
+
   -- a number that is remembered is that of the field's token
   pub remembered-number : (o : Option ℕ) → o ≡ remembered_at facts index → o ≡ Some number → (k : ℕ) → k ≡ number → k ≡ reserve_number file (state_name file index)
   remembered-number o e g k f = f ∙ v.right index number (sym e ∙ g)
@@ -33,10 +36,9 @@ module _ (file : List ℕ) (facts : Facts) (v : FactsOf file facts) (index numbe
 
   -- and it may be remembered
   pub still-facts : (n : List ℕ) → n ≡ state_name file index → number ≡ reserve_number file n → (last : Facts) →
-      last ≡ record facts { held = slice_set facts.held index number } → FactsOf file last
+      last ≡ record facts { held = slice_set facts.held index number } → FactsOf last
   unfolding remembered_at
-  still-facts n e f last g =
-      rw g (record { funded = record { listed = v.funded.listed }; right = λ i k. go i k (eqb i index) (ltb index (length facts.held)) refl refl })
+  still-facts n e f last g = rw g (record { right = λ i k. go i k (eqb i index) (ltb index (length facts.held)) refl refl })
     where
       told : (i k x : ℕ) → x ≡ number → i ≡ index → (b : Bool) → cond b None (Some x) ≡ Some k → k ≡ reserve_number file (state_name file i)
       told i k x p q true m = cc m
@@ -59,15 +61,11 @@ module _ (file : List ℕ) (facts : Facts) (v : FactsOf file facts) (index numbe
           untold i k (get_or (slice_set facts.held index number) i not_yet) p m
 
 -- each of several numbers that are worked out may be remembered
-pub each-written : (file indices numbers : List ℕ) → Numbered file indices numbers → (j : ℕ) → j < length indices → (facts : Facts) → FactsOf file facts →
+pub each-written : (file indices numbers : List ℕ) → Numbered file indices numbers → (j : ℕ) → j < length indices → (facts : Facts) → facts.file.now ≡ file → FactsOf facts →
     (number : ℕ) → number ≡ get_or numbers j 0 → (index : ℕ) → index ≡ get_or indices j 0 →
-    (last : Facts) → last ≡ record facts { held = slice_set facts.held index number } → FactsOf file last
-each-written file indices numbers w j h facts v number e index f last g =
-    still-facts file facts v index number (state_name file index) refl (rw (e, f) (w.each j h)) last g
-
--- facts whose maps are listed are right, since they remember the same
-pub facts-relisted : (file : List ℕ) (facts : Facts) → FactsOf file facts → (last : Facts) → Relisted file facts last → FactsOf file last
-facts-relisted file facts v last w = record { funded = w.funded; right = λ i. rw (w.kept i) (v.right i) }
+    (last : Facts) → last ≡ record facts { held = slice_set facts.held index number } → FactsOf last
+each-written file indices numbers w j h facts same v number e index f last g =
+    still-facts facts v index number (state_name facts.file.now index) refl (rw (e, f, same) (w.each j h)) last g
 
 -- the field's token is the one that is asked for
 pub by_token : (file token : List ℕ) (index : ℕ) (t : List ℕ) → t ≡ reserve_token (fields file) (state_name file index) →

@@ -1,4 +1,5 @@
 pub mod Reserves
 pub mod States
 pub mod Holding
+pub mod Reading
 pub mod Covers

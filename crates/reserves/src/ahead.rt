@@ -3,10 +3,10 @@
 // those of which nothing is remembered yet are worked out together, since an entry is then gone through once for all of them.
 ghost use Rattle.std.specs.Prelude.{ℕ, ◌≡◌, ◌+◌, ◌≤◌, ◌<◌, length, get_or};
 ghost use Rattle.fields.specs.Field.{front};
-ghost use Rattle.reserves.specs.Holding.{Known};
+ghost use Rattle.reserves.specs.Reading.{file_of};
 ghost use Rattle.reserves.specs.Covers.{lowered_number, Ahead};
 
-use super::holding::work_out_each;
+use super::reading::Reading;
 use super::state::state_number;
 use arrayvec::ArrayVec;
 use fields::front::{after_front, part_of};
@@ -50,6 +50,7 @@ pub fn list_ahead<'a>(
             return None;
         };
         let name = guarded_field(part_of(next.part, 0));
+        // At most 32,768: `try_from` would have to answer for what can't be.
         table[n] = lowered_number(file, name, lowerings) as u16;
         ahead = first_guard(after_front(next.part), amount);
     }
@@ -72,21 +73,17 @@ fn note_unknown(number: u16, facts: &Facts, unknown: &mut ArrayVec<u16, FIELDS>)
     }
 }
 
-// Works out and remembers their tokens.
-pub fn work_out_unknown(
-    file: &[u8],
-    numbers: &[u16; FIELDS],
-    facts: &mut Facts,
-    scratch: &mut [u16],
-)
-    requires { Known file.now facts.old scratch.old }
-    ensures { Known file.now facts.new scratch.new }
-{
-    let mut unknown = ArrayVec::new();
-    for &number in numbers {
-        note_unknown(number, facts, &mut unknown);
+impl<'a, 't> Reading<'a, 't> {
+    // Works out and remembers the tokens of the state fields of these numbers of which nothing is remembered yet.
+    pub fn work_out_unknown(&mut self, numbers: &[u16; FIELDS])
+        ensures same_file { file_of self.new ≡ file_of self.old }
+    {
+        let mut unknown = ArrayVec::new();
+        for &number in numbers {
+            note_unknown(number, self.facts, &mut unknown);
+        }
+        self.work_out_each(unknown.as_slice());
     }
-    work_out_each(file, unknown.as_slice(), facts, scratch);
 }
 
 // Twice as many, as far as a table has room for them.

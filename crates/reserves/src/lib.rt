@@ -4,4 +4,5 @@
 pub mod ahead;
 pub mod covering;
 pub mod holding;
+pub mod reading;
 pub mod state;

@@ -15,6 +15,7 @@ pub fn state_name(file: &[u8], index: usize) -> &[u8]
 {
     match nth_state(file, index) {
         Some(field) => name_of(field.part),
+        // What the rules' definition has for a number past the last.
         None => &file[..0],
     }
 }

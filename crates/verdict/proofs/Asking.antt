@@ -2,9 +2,10 @@
 use Rattle.std.proofs.Common.{ℕ, ◌≤◌, ◌<◌, ◌≡◌, refl, sym, ap, ◌∙◌, Bool, true, false, List, [], ◌∷◌, arith, lt-ltb, le-ltb, ltb-true, ltb-false, ltb, length, get_or, drop}
 use Rattle.std.proofs.Common.{take_all}
 use mathlib.Core.Bool.{false≢true}
-use Rattle.std.proofs.Common.{Option, Some, None, IfSome, zero, suc, ◌+◌}
+use Rattle.std.proofs.Common.{Option, Some, None, IfSome, Result, Ok, Err, zero, suc, ◌+◌}
+use Rattle.questions.specs.declared.question.Refusal.{Refusal}
 use Rattle.std.specs.List.{slice_get}
-use Rattle.std.specs.Option.{option_map}
+use Rattle.std.specs.Option.{option_map, ok_or}
 use Rattle.std.proofs.lemmas.Option.{slice_get_within, get_or_from_slice_get}
 use Rattle.laws.proofs.Lists.{Every, every-filter, every-at, every-weaker}
 use Rattle.fields.specs.Field.{Fields, Placed, fields, nothing, placed, placed_from, size, sizes}
@@ -20,7 +21,7 @@ use Rattle.questions.specs.Questions.{at_most}
 use Rattle.entries.specs.Calls.{body_where}
 use Rattle.claim.specs.Verdict.{refused, entry_at, ask_entry, entry_verdict}
 use Rattle.verdict.specs.Coded.{placed_verdict, backed_verdict}
-use Rattle.verdict.specs.Place.{place_of_entry}
+use Rattle.verdict.specs.Place.{place_of_entry, no_entry}
 
 -- Question 9: the entry that is shown
 
@@ -98,6 +99,22 @@ module _ (file : List ℕ) (n : ℕ) where
 
       pub entry-there : entry_at (fields file) n ≡ placed_at file place
       entry-there = stands-there entry-counted ∙ ap (placed_at file) counted-there.1
+
+-- what is answered is the place, or the "no"
+module _ (file : List ℕ) (n : ℕ) (q : Result ℕ Refusal) (e : q ≡ ok_or (place_of_entry file n) no_entry) where
+  pub place-missing : (d : Refusal) → q ≡ Err d → (place_of_entry file n ≡ None) × (d ≡ no_entry)
+  place-missing d f = go (place_of_entry file n) refl
+    where
+      go : (r : Option ℕ) → place_of_entry file n ≡ r → (place_of_entry file n ≡ None) × (d ≡ no_entry)
+      go None g = (g, cc (rw g at e))
+      go (Some place) g = cc (rw g at e)
+
+  pub place-found : (place : ℕ) → q ≡ Ok place → place_of_entry file n ≡ Some place
+  place-found place f = go (place_of_entry file n) refl
+    where
+      go : (r : Option ℕ) → place_of_entry file n ≡ r → place_of_entry file n ≡ Some place
+      go None g = cc (rw g at e)
+      go (Some x) g = cc (rw g at e)
 
 -- Question 9: the "no", or the verdict past it
 

@@ -1,6 +1,7 @@
 -- Questions 9 to 12: the first "no" is the verdict, and where there is none the matching is.
 use Rattle.std.proofs.Common.{ℕ, ◌*◌, ◌≤◌, ◌<◌, ◌≡◌, refl, sym, ap, ◌∙◌, Bool, true, false, List, [], arith, leb-true, leb-false, leb, length, get_or, drop_of_length-le, drop-cons, Ok, Err}
-use Rattle.std.proofs.Common.{Option, Some, None}
+use Rattle.std.proofs.Common.{Some, Result}
+use Rattle.std.specs.Option.{ok_or}
 use lib.ListN.{length-map}
 use Rattle.laws.proofs.Lists.{no-elements}
 use Rattle.fields.specs.Field.{Field, Placed, fields}
@@ -8,7 +9,6 @@ use Rattle.questions.specs.Questions.{ask, at_most, ◌and_then◌}
 use Rattle.questions.specs.Questions.Asked.{passes, fails}
 use Rattle.questions.specs.Answers.{Answered, number_of, asked}
 use Rattle.questions.specs.declared.question.Refusal.{Refusal}
-use Rattle.questions.specs.declared.question.Question.TheVariants.{EntryNumber}
 use Rattle.walking.specs.Walking.{is_payout, payouts}
 use Rattle.walking.specs.Table.{placed_at}
 use Rattle.entries.specs.Calls.{body_where}
@@ -19,9 +19,9 @@ use Rattle.entries.proofs.Reading.{entered}
 use Rattle.claim.specs.Verdict.{Verdict, refused, accepted, match_from, matching, backing_count, spare, entry_at, entry_verdict, sheet, written}
 use Rattle.claim.specs.Verdict.{first_of, second_of}
 use Rattle.verdict.specs.Coded.{Told, numbers_of, numbers, ask_counted, ask_placed, placed_verdict, placed_answer, placed_covers, entry_answer, entry_covers}
-use Rattle.verdict.specs.Place.{place_of_entry}
+use Rattle.verdict.specs.Place.{place_of_entry, no_entry}
 use Rattle.verdict.specs.declared.entry.Objection.TheVariants.{Refused}
-use Rattle.verdict.proofs.Asking.{ninth, not-ninth, entry-missing, entry-counted, entry-there}
+use Rattle.verdict.proofs.Asking.{ninth, not-ninth, entry-missing, entry-counted, entry-there, place-missing, place-found}
 
 -- a refusal writes nothing
 module _ (v : Verdict) (d : Refusal) (e : v ≡ refused (number_of d.question) d.place) where
@@ -138,10 +138,12 @@ module _ (file : List ℕ) (n place : ℕ) (e : n ≡ place) where
 
 -- Question 9
 
-module _ (file : List ℕ) (n : ℕ) (r : Option ℕ) (e : r ≡ place_of_entry file n) (lent : List ℕ) where
-  module _ (f : r ≡ None) (d : Refusal) (g : d ≡ record { question = EntryNumber; place = 0 }) where
+module _ (file : List ℕ) (n : ℕ) (q : Result ℕ Refusal) (e : q ≡ ok_or (place_of_entry file n) no_entry) (lent : List ℕ) where
+  module _ (d : Refusal) (f : q ≡ Err d) where
     ninth-refused : entry_verdict (fields file) n (length lent) ≡ refused (number_of d.question) d.place
-    ninth-refused = rw g (ninth (fields file) n (length lent) (entry-missing file n r e f))
+    ninth-refused =
+        let none = place-missing file n q e d f in
+        rw none.1 (ninth (fields file) n (length lent) (entry-missing file n (place_of_entry file n) refl none.0))
 
     pub told-ninth : numbers_of (Err (Refused d)) ≡ entry_answer file n (length lent)
     told-ninth = told-refused (entry_verdict (fields file) n (length lent)) d ninth-refused (entry_at (fields file) n).this
@@ -149,12 +151,15 @@ module _ (file : List ℕ) (n : ℕ) (r : Option ℕ) (e : r ≡ place_of_entry 
     pub left-ninth : lent ≡ entry_covers file n lent
     left-ninth = left-refused (entry_verdict (fields file) n (length lent)) d ninth-refused lent
 
-  module _ (place : ℕ) (f : r ≡ Some place) where
+  module _ (place : ℕ) (f : q ≡ Ok place) where
+    some : place_of_entry file n ≡ Some place
+    some = place-found file n q e place f
+
     there : entry_at (fields file) n ≡ placed_at file place
-    there = entry-there file n r e place f
+    there = entry-there file n (place_of_entry file n) refl place some
 
     past-ninth : entry_verdict (fields file) n (length lent) ≡ placed_verdict (fields file) (placed_at file place) (length lent)
-    past-ninth = not-ninth (fields file) n (length lent) (entry-counted file n r e place f) (placed_at file place) there
+    past-ninth = not-ninth (fields file) n (length lent) (entry-counted file n (place_of_entry file n) refl place some) (placed_at file place) there
 
     pub told-placed : (x : Told) → numbers_of x ≡ placed_answer file place (length lent) → numbers_of x ≡ entry_answer file n (length lent)
     told-placed x g = rw (past-ninth, there) g

@@ -8,18 +8,17 @@ use Rattle.walking.specs.Walking.{payouts}
 use Rattle.entries.specs.Entered.{Entered, entry_of}
 use Rattle.entries.specs.declared.entry.Entry.{Entry}
 use Rattle.entries.proofs.Reading.{field-there}
-use Rattle.fundings.specs.declared.facts.Facts.{Facts}
-use Rattle.reserves.specs.Holding.{FactsOf}
 use Rattle.backings.specs.Tables.{Admitted}
 use Rattle.backings.specs.Marked.{all_free, uses}
 use Rattle.matching.specs.Matching.{Cover, Reason, Marks, answer, start}
 use Rattle.matching.specs.Matching.Answer.{cover, rejection}
 use Rattle.matching.specs.Standing.{backings_of, Stands}
-use Rattle.matching.specs.Prepared.{Prepared, Ready, payout_at}
+use Rattle.matching.specs.Prepared.{Ready, payout_at}
 use Rattle.matching.specs.Coded.{cover_of, reason_of, answer_of, Answers, AnswersFor}
 use Rattle.matching.specs.declared.answer.Cover.{Cover as CodedCover}
 use Rattle.matching.specs.declared.answer.Reason.{Reason as CodedReason}
 use Rattle.matching.specs.declared.answer.Pass.{Pass}
+use Rattle.matching.specs.declared.payout.Payout.{Payout}
 use Rattle.matching.proofs.Backed.{backings-many}
 use Rattle.matching.proofs.Kept.{start-stands}
 use Rattle.matching.proofs.Ways.{Step, a-step}
@@ -84,13 +83,11 @@ objected Q (Err q) m h o e = (q, refl, rw e at h)
 
 -- The pass so far
 
-pub record Running (file : List ℕ) (en : Entry) (facts : Facts) (lent scratch bytes : List ℕ) (pass : Pass) (k : ℕ) : Type 0 where
+pub record Running (file : List ℕ) (en : Entry) (bytes : List ℕ) (pass : Pass) (k : ℕ) : Type 0 where
   pub state : Marks
   pub done : List Cover
   pub reached : k ≤ en.payouts
-  pub prepared : Prepared file en facts
-  pub long : length scratch ≡ length lent
-  pub room : length file ≤ 3 * length lent
+  pub entered : Entered file en
   pub admits : Admitted file en.place pass.admitted
   pub few : uses pass.marks ≤ k
   pub stands : Stands (backings_of file en.place) pass.marks state
@@ -102,18 +99,15 @@ pub record Running (file : List ℕ) (en : Entry) (facts : Facts) (lent scratch 
       ≡ with_covers done (match_from (fields file) (entry_of file en.place) state k (drop k (payouts (entry_of file en.place))))
 
 module _ (file : List ℕ) (en : Entry) where
-  pub running_none : (facts : Facts) (lent : List ℕ) → Prepared file en facts → length file ≤ 3 * length lent → (pass : Pass) → pass.marks ≡ all_free → pass.admitted ≡ None →
-      Running file en facts lent lent (replicate 192 0) pass 0
+  pub running_none : Entered file en → (pass : Pass) → pass.marks ≡ all_free → pass.admitted ≡ None → Running file en (replicate 192 0) pass 0
   unfolding start matching sheet all_free
-  running_none facts lent d room pass e f =
-      let few : length (backings_of file en.place) ≤ 64 = omega (arith, backings-many file en d.entered, d.entered.few) in
+  running_none d pass e f =
+      let few : length (backings_of file en.place) ≤ 64 = omega (arith, backings-many file en d, d.few) in
       record {
         state = start (fields file) (entry_of file en.place);
         done = [];
         reached = omega arith;
-        prepared = d;
-        long = refl;
-        room = room;
+        entered = d;
         admits = rw f tt;
         few = rw e (omega arith);
         stands = rw e (start-stands (fields file) (entry_of file en.place) few);
@@ -124,9 +118,9 @@ module _ (file : List ℕ) (en : Entry) where
         rest = refl;
       }
 
-  module _ (facts : Facts) (lent scratch bytes : List ℕ) (pass : Pass) (k : ℕ) (v : Running file en facts lent scratch bytes pass k) where
+  module _ (bytes : List ℕ) (pass : Pass) (k : ℕ) (v : Running file en bytes pass k) where
     abbrev d : Entered file en
-    d = v.prepared.entered
+    d = v.entered
 
     abbrev model : Fields
     model = fields file
@@ -134,22 +128,13 @@ module _ (file : List ℕ) (en : Entry) where
     abbrev entry : Field
     entry = entry_of file en.place
 
-    pub running-facts : FactsOf file facts
-    running-facts = v.prepared.known
-
-    pub running-long : length scratch ≡ length lent
-    running-long = v.long
-
-    pub running-room : length file ≤ 3 * length scratch
-    running-room = rw v.long v.room
-
     pub running-wide : length bytes ≡ 192
     running-wide = v.wide
 
     module _ (h : k < en.payouts) where
       -- what the answer needs
-      pub running-ready : Ready file en facts pass k
-      running-ready = record { prepared = v.prepared; admits = v.admits; among = h; room = omega (arith, v.few, h, d.limit) }
+      pub running-ready : (p : Payout) → p.entry.now ≡ en → Ready file p pass
+      running-ready p e = record { entered = rw e d; admits = rw e v.admits; room = omega (arith, v.few, h, d.limit) }
 
       -- there is room for the next three bytes
       pub running-next : 3 * k + 3 ≤ length bytes
@@ -211,18 +196,15 @@ module _ (file : List ℕ) (en : Entry) where
               let next : k + 1 ≡ suc k = omega arith in
               v.rest ∙ rw (left_over, match_from, same, next) (one_more v.done (cover_of c) (match_from model entry answers.after (suc k) (drop (suc k) (payouts entry))))
 
-          pub running-on : uses next.marks ≤ uses pass.marks + 1 → (last : Facts) → FactsOf file last → (used : List ℕ) → length used ≡ length scratch →
-              Admitted file en.place next.admitted → (u : List ℕ) → u ≡ sets bytes (3 * k) (cover_bytes (cover_of c)) →
-              Running file en last lent used u next (k + 1)
-          running-on less last right used same-used admits u w =
+          pub running-on : uses next.marks ≤ uses pass.marks + 1 → Admitted file en.place next.admitted →
+              (u : List ℕ) → u ≡ sets bytes (3 * k) (cover_bytes (cover_of c)) → Running file en u next (k + 1)
+          running-on less admits u w =
               let three : u ≡ sets bytes (3 * k) (sheet (cover_of c ∷ [])) = w ∙ ap (λ l. sets bytes (3 * k) l) (bytes_of (cover_of c) index-small) in
               record {
                 state = answers.after;
                 done = v.done ++ cover_of c ∷ [];
                 reached = omega (arith, h);
-                prepared = record { entered = d; known = right };
-                long = same-used ∙ v.long;
-                room = v.room;
+                entered = d;
                 admits = admits;
                 few = omega (arith, less, v.few);
                 stands = answers.stands;

@@ -4,6 +4,12 @@ use Rattle.std.specs.Prelude.{Option, None, Some}
 use Rattle.fields.specs.Field.{fields}
 use Rattle.model.specs.Model.{entries}
 use Rattle.claim.specs.Verdict.{entry_at}
+use Rattle.questions.specs.declared.question.Refusal.{Refusal}
+use Rattle.questions.specs.declared.question.Question.TheVariants.{EntryNumber}
+
+-- the "no" to question 9
+abbrev pub no_entry : Refusal
+no_entry = record { question = EntryNumber; place = 0 }
 
 -- the place, if there is one, of an entry by its number
 unfoldable pub place_of_entry : List ℕ → ℕ → Option ℕ

@@ -1,20 +1,21 @@
 // SPDX-License-Identifier: Apache-2.0 OR MIT
 // The verdict on an entry: it is read, questions 10 to 12 are asked, and then it is gone through payout by payout.
-ghost use Rattle.std.specs.Prelude.{◌≡◌, ◌*◌, ◌≤◌, length, IfSome};
+ghost use Rattle.std.specs.Prelude.{◌≡◌, ◌*◌, ◌≤◌, length, ok_or, IfSome, IfOk};
 ghost use Rattle.entries.specs.Entered.{Read, Entered};
-ghost use Rattle.reserves.specs.Holding.{FactsOf, Known};
-ghost use Rattle.matching.specs.Prepared.{Prepared};
+ghost use Rattle.reserves.specs.Reading.{file_of};
 ghost use Rattle.questions.specs.Answers.{asked};
 ghost use Rattle.verdict.specs.declared.entry.Objection.TheVariants.{Refused};
-ghost use Rattle.verdict.specs.Place.{place_of_entry};
+ghost use Rattle.verdict.specs.Place.{place_of_entry, no_entry};
 ghost use Rattle.verdict.specs.Coded.{ask_counted, numbers_of, placed_answer, placed_covers, matched_answer, matched_covers, entry_answer, entry_covers};
 
 use super::sheet::{copy_sheet, write_cover};
 use entries::entry::{Entry, read_entry};
-use fundings::facts::{Facts, nothing_known};
-use matching::answer::{Pass, Payout, Reason};
+use fundings::facts::nothing_known;
+use matching::answer::{Pass, Reason};
+use matching::payout::Payout;
 use model::nth_entry;
 use questions::question::{Answer, Question, Refusal};
+use reserves::reading::Reading;
 use walking::walk::MOST_FIELDS;
 
 // Most files are no longer than this, and need a table of a fifth of the size, which is sooner cleared.
@@ -22,6 +23,12 @@ pub const SHORT_FILE: usize = 6144;
 
 // A number for each three bytes of such a file.
 pub const SHORT_FIELDS: usize = 2048;
+
+// The "no" to question 9: there is no entry of that number.
+pub const NO_ENTRY: Refusal = Refusal {
+    question: Question::EntryNumber,
+    place: 0,
+};
 
 // The number of payouts, each of which has a cover, and of the backings beyond them.
 #[derive(Clone, Copy)]
@@ -49,25 +56,18 @@ impl From<Refusal> for Objection {
 pub type Verdict = Result<Accepted, Objection>;
 
 // The entry, payout by payout. The covers are written at the end, where each payout has one.
-fn match_payouts(
-    file: &[u8],
-    entry: &Entry,
-    facts: &mut Facts,
-    scratch: &mut [u16],
-    covers: &mut [u8],
-) -> Verdict
-    requires prepared { Prepared file.now entry.now facts.old }
-    requires scratch { length file.now ≤ 3 * length scratch.old }
+fn match_payouts(reading: &mut Reading, entry: &Entry, covers: &mut [u8]) -> Verdict
+    requires entered { Entered (file_of reading.old) entry.now }
     requires room { 3 * entry.now.payouts ≤ length covers.old }
-    ensures answer { numbers_of result ≡ matched_answer file.now entry.now.place }
-    ensures covers { covers.new ≡ matched_covers file.now entry.now.place covers.old }
-    ensures facts { FactsOf file.now facts.new }
+    ensures same_file { file_of reading.new ≡ file_of reading.old }
+    ensures answer { numbers_of result ≡ matched_answer (file_of reading.old) entry.now.place }
+    ensures covers { covers.new ≡ matched_covers (file_of reading.old) entry.now.place covers.old }
 {
     let mut sheet = [0u8; 192];
     let mut pass = Pass::start();
     let count = entry.payouts;
     for k in 0..count {
-        let answer = pass.answer_payout(&Payout { file, entry, k }, facts, scratch);
+        let answer = pass.answer_payout(&Payout { entry, k }, reading);
         let cover = answer.map_err(|reason| Objection::Rejected { payout: k, reason })?;
         write_cover(cover, &mut sheet, k);
     }
@@ -80,32 +80,24 @@ fn match_payouts(
 
 // Lists the maps that some call of the file funds, where a debit may ask for its map's token. A reserve that asks for one has them
 // listed by itself.
-fn list_if_asked(file: &[u8], debits: usize, facts: &mut Facts, scratch: &mut [u16])
-    requires { Known file.now facts.old scratch.old }
-    ensures { FactsOf file.now facts.new }
+fn list_if_asked(reading: &mut Reading, debits: usize)
+    ensures same_file { file_of reading.new ≡ file_of reading.old }
 {
     if debits != 0 {
-        facts.list_facts(file, scratch);
+        reading.list_facts();
     }
 }
 
 // The entry past questions 10 to 12.
-fn cover_payouts(
-    file: &[u8],
-    entry: &Entry,
-    facts: &mut Facts,
-    scratch: &mut [u16],
-    covers: &mut [u8],
-) -> Verdict
-    requires entered { Entered file.now entry.now }
-    requires known { Known file.now facts.old scratch.old }
+fn cover_payouts(reading: &mut Reading, entry: &Entry, covers: &mut [u8]) -> Verdict
+    requires entered { Entered (file_of reading.old) entry.now }
     requires room { 3 * entry.now.payouts ≤ length covers.old }
-    ensures answer { numbers_of result ≡ matched_answer file.now entry.now.place }
-    ensures covers { covers.new ≡ matched_covers file.now entry.now.place covers.old }
-    ensures facts { FactsOf file.now facts.new }
+    ensures same_file { file_of reading.new ≡ file_of reading.old }
+    ensures answer { numbers_of result ≡ matched_answer (file_of reading.old) entry.now.place }
+    ensures covers { covers.new ≡ matched_covers (file_of reading.old) entry.now.place covers.old }
 {
-    list_if_asked(file, entry.debits, facts, scratch);
-    match_payouts(file, entry, facts, scratch, covers)
+    list_if_asked(reading, entry.debits);
+    match_payouts(reading, entry, covers)
 }
 
 // Questions 10 to 12 of an entry, with as many bytes of covers lent.
@@ -135,18 +127,11 @@ fn ask_entry(entry: &Entry, lent: usize) -> Answer
 }
 
 // Questions 10 to 12 of the entry, and then its payouts, where there are some.
-fn asked_verdict(
-    file: &[u8],
-    entry: &Entry,
-    facts: &mut Facts,
-    scratch: &mut [u16],
-    covers: &mut [u8],
-) -> Verdict
-    requires read { Read file.now entry.now }
-    requires known { Known file.now facts.old scratch.old }
-    ensures answer { numbers_of result ≡ placed_answer file.now entry.now.place (length covers.old) }
-    ensures covers { covers.new ≡ placed_covers file.now entry.now.place covers.old }
-    ensures facts { FactsOf file.now facts.new }
+fn asked_verdict(reading: &mut Reading, entry: &Entry, covers: &mut [u8]) -> Verdict
+    requires { Read (file_of reading.old) entry.now }
+    ensures same_file { file_of reading.new ≡ file_of reading.old }
+    ensures answer { numbers_of result ≡ placed_answer (file_of reading.old) entry.now.place (length covers.old) }
+    ensures covers { covers.new ≡ placed_covers (file_of reading.old) entry.now.place covers.old }
 {
     ask_entry(entry, covers.len())?;
     if entry.payouts == 0 {
@@ -155,26 +140,18 @@ fn asked_verdict(
             spare: entry.total,
         });
     }
-    cover_payouts(file, entry, facts, scratch, covers)
+    cover_payouts(reading, entry, covers)
 }
 
-// The verdict on the entry at a place of a file that passes question 1: question 10 and what comes behind it. The caller lends
-// a table with a number for each three bytes of the file, and one for what is the same for all entries.
-pub fn placed_verdict(
-    file: &[u8],
-    place: usize,
-    facts: &mut Facts,
-    scratch: &mut [u16],
-    covers: &mut [u8],
-) -> Verdict
-    requires inside { place ≤ length file.now }
-    requires known { Known file.now facts.old scratch.old }
-    ensures answer { numbers_of result ≡ placed_answer file.now place (length covers.old) }
-    ensures covers { covers.new ≡ placed_covers file.now place covers.old }
-    ensures facts { FactsOf file.now facts.new }
+// The verdict on the entry at a place of a file that passes questions 1 to 9: question 10 and what comes behind it.
+pub fn placed_verdict(reading: &mut Reading, place: usize, covers: &mut [u8]) -> Verdict
+    requires { place ≤ length (file_of reading.old) }
+    ensures same_file { file_of reading.new ≡ file_of reading.old }
+    ensures answer { numbers_of result ≡ placed_answer (file_of reading.old) place (length covers.old) }
+    ensures covers { covers.new ≡ placed_covers (file_of reading.old) place covers.old }
 {
-    let entry = read_entry(file, place, scratch);
-    asked_verdict(file, &entry, facts, scratch, covers)
+    let entry = read_entry(reading.facts.file, place, reading.scratch);
+    asked_verdict(reading, &entry, covers)
 }
 
 // The same with tables of its own.
@@ -186,9 +163,10 @@ fn verdict_with<const FIELDS: usize>(file: &[u8], place: usize, covers: &mut [u8
     ensures answer { numbers_of result ≡ placed_answer file.now place (length covers.old) }
     ensures covers { covers.new ≡ placed_covers file.now place covers.old }
 {
-    let mut facts = nothing_known();
+    let mut facts = nothing_known(file);
     let mut scratch = [0u16; FIELDS];
-    placed_verdict(file, place, &mut facts, &mut scratch, covers)
+    let mut reading = Reading::new(&mut facts, &mut scratch);
+    placed_verdict(&mut reading, place, covers)
 }
 
 // Most files are short, and a short table is soon cleared.
@@ -212,15 +190,20 @@ pub fn place_of_entry(file: &[u8], n: usize) -> Option<usize>
     nth_entry(file, n).map(|entry| entry.place)
 }
 
+// The same, or the "no" to question 9 where there is none.
+pub fn place_or_refusal(file: &[u8], n: usize) -> Result<usize, Refusal>
+    ensures place { result ≡ ok_or (place_of_entry file.now n) no_entry }
+    ensures inside { IfOk result (λ place. place ≤ length file.now) }
+{
+    place_of_entry(file, n).ok_or(NO_ENTRY)
+}
+
 // The verdict on the n-th entry of a file that passes question 1.
 pub fn entry_verdict(file: &[u8], n: usize, covers: &mut [u8]) -> Verdict
     requires { length file.now ≤ 32768 }
     ensures answer { numbers_of result ≡ entry_answer file.now n (length covers.old) }
     ensures covers { covers.new ≡ entry_covers file.now n covers.old }
 {
-    let place = place_of_entry(file, n).ok_or(Refusal {
-        question: Question::EntryNumber,
-        place: 0,
-    })?;
+    let place = place_or_refusal(file, n)?;
     verdict_at(file, place, covers)
 }

@@ -17,6 +17,7 @@ impl From<Outcome> for u8 {
     ghost from_gives = { λ outcome number. number ≡ outcome_number outcome };
 
     fn from(outcome: Outcome) -> u8 {
+        // The discriminant is the rules' number.
         outcome as u8
     }
 }

@@ -35,12 +35,13 @@ fn index_of(cover: Cover) -> usize
     }
 }
 
-// Writes the three bytes of a cover as the k-th of a sheet.
+// Writes the three bytes of a cover as the k-th of a sheet. As a slice of three the caller would have to cut them out, by the same sums.
 pub fn write_cover(cover: Cover, sheet: &mut [u8], k: usize)
     requires { 3 * k + 3 ≤ length sheet.old }
     ensures { sheet.new ≡ sets sheet.old (3 * k) (cover_bytes (cover_of cover)) }
 {
     let at = 3 * k;
+    // Below 65,536 by the remainder: `try_from` would have to answer for what can't be.
     let [high, low] = ((index_of(cover) % 65536) as u16).to_be_bytes();
     sheet[at..at + 3].copy_from_slice(&[kind_of(cover), high, low]);
 }

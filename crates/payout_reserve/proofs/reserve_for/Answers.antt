@@ -1,11 +1,10 @@
 -- The payout stands alone in a table, and nothing is known yet.
-use Rattle.std.proofs.Common.{rules}
 use Rattle.reserves.proofs.Remembering.{facts-none}
 use Rattle.payout_reserve.proofs.Reserving.{alone-asked}
 use Rattle.payout_reserve.proofs.reserve_for.Goals as goal
 
-pub reserve_bounding_payout-requires : goal.reserve_bounding_payout-requires
-reserve_bounding_payout-requires c = search (facts-none, rules)
+pub new-requires-clause-right : goal.new-requires-clause-right
+new-requires-clause-right c = search facts-none
 
 pub returns : goal.returns
-returns c = search alone-asked
+returns c = alone-asked _ _ _ _ (rw (c.new.ensures.same_file, c.nothing_known-facts.ensures.file) at c.reserve_bounding_payout.ensures.found)

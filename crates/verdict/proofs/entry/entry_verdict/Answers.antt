@@ -1,29 +1,26 @@
 -- The ninth question, or the verdict on the entry at its place.
-use Rattle.std.proofs.Common.{arith, ◌≡◌, Some, None}
+use Rattle.std.proofs.Common.{arith, ◌≡◌, Ok, Err}
 use Rattle.std.proofs.lemmas.Result.{err_from_is_err_and}
-use Rattle.questions.specs.declared.question.Question.TheVariants.{EntryNumber}
 use Rattle.verdict.proofs.Placing.{told-ninth, left-ninth, told-placed, left-placed}
 use Rattle.verdict.proofs.entry.entry_verdict.Goals as goal
 
 pub returns-in_err-place-clause-answer : goal.returns-in_err-place-clause-answer
 returns-in_err-place-clause-answer c =
     let p = err_from_is_err_and c.from_residual.result c.from_residual.ensures.1 in
-    let none : c.place_of_entry.result ≡ None = grind arith in
-    let no : c.in_err-place.field-0.0 ≡ record { question = EntryNumber; place = 0 } = grind arith in
+    let was : c.place_or_refusal.result ≡ Err c.in_err-place.field-0.0 = grind arith in
     rw (p.1, p.2) (search told-ninth)
 
 pub returns-in_err-place-clause-covers : goal.returns-in_err-place-clause-covers
 returns-in_err-place-clause-covers c =
-    let none : c.place_of_entry.result ≡ None = grind arith in
-    let no : c.in_err-place.field-0.0 ≡ record { question = EntryNumber; place = 0 } = grind arith in
+    let was : c.place_or_refusal.result ≡ Err c.in_err-place.field-0.0 = grind arith in
     search left-ninth
 
 pub returns-clause-answer : goal.returns-clause-answer
 returns-clause-answer c =
-    let some : c.place_of_entry.result ≡ Some c.in_ok-place.place = grind arith in
+    let found : c.place_or_refusal.result ≡ Ok c.in_ok-place.place = grind arith in
     search told-placed
 
 pub returns-clause-covers : goal.returns-clause-covers
 returns-clause-covers c =
-    let some : c.place_of_entry.result ≡ Some c.in_ok-place.place = grind arith in
+    let found : c.place_or_refusal.result ≡ Ok c.in_ok-place.place = grind arith in
     search left-placed

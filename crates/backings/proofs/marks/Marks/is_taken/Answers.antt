@@ -8,8 +8,8 @@ use Rattle.backings.specs.Tables.{equal_to, taken_in}
 use Rattle.backings.proofs.marks.Marks.is_taken.Goals as goal
 
 pub returns : goal.returns
-unfolding taken_in equal_to
+unfolding taken_in
 returns c =
     any_from_yields_List
-    (taken_in c.args.file.now c.args.entry.now.backed c.args.entry.now.debits c.args.self.now.free (equal_to (payout_amount (front c.args.s.now)))) c.any.new.self _
+    (taken_in c.args.file.now c.args.entry.now c.args.self.now.free (equal_to (payout_amount (front c.args.s.now)))) c.any.new.self _
     c.any.result c.any.ensures.ran (YieldsList-from_range 0 _ _ refl (omega arith)) (λ x b q k. (search rules, search rules))
