@@ -132,12 +132,7 @@ impl Pass {
 
     // The answer by the first free backing that passes a test, rejecting if its token and the payout's conflict: no other one is tried
     // then. None where there is no such backing: the next step of the rules decides.
-    fn by_backing(
-        &mut self,
-        test: Test,
-        payout: &Payout,
-        reading: &mut Reading,
-    ) -> Option<Answer>
+    fn by_backing(&mut self, test: Test, payout: &Payout, reading: &mut Reading) -> Option<Answer>
         requires { Ready (file_of reading.old) payout.now self.old }
         ensures same_file { file_of reading.new ≡ file_of reading.old }
         ensures answers { unwrap_or result (answered (next_step test) (file_of reading.old) payout.now self.old.marks)
