@@ -24,6 +24,7 @@ use fundings::facts::Facts;
 use guards::payout::payout_token;
 use model::name_of;
 use reserves::reading::Reading;
+use tokens::entry::entry_at;
 use tokens::number::{token_of, tokens_number};
 use tokens::set::tokens_differ;
 use walking::peel::peel;
@@ -63,8 +64,8 @@ fn admitted_number(reading: &mut Reading, place: usize, admitted: &mut Option<us
     ensures number { result ≡ tokens_number (file_of reading.old) (placed_at (file_of reading.old) place) }
     ensures admits { Admitted (file_of reading.old) place admitted.new }
 {
-    let file = reading.facts.file;
-    *admitted.get_or_insert_with(|| tokens_number(file, place, reading.scratch))
+    let entry = entry_at(reading.facts.file, place);
+    *admitted.get_or_insert_with(|| tokens_number(&entry, reading.scratch))
 }
 
 // The token of a debit: the one that funds the map of debit number i.

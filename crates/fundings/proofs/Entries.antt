@@ -9,8 +9,7 @@ use Rattle.fields.specs.declared.field.Field.{Field as Found}
 use Rattle.fundings.specs.FundingTokens.{funds}
 use Rattle.fundings.specs.declared.ledger.Funding.{Funding}
 use Rattle.fundings.specs.Fundings.{funded_by, number_of_map, EntryJoins, EachMap}
-use Rattle.tokens.specs.Numbers.{Standing}
-use Rattle.fundings.proofs.Funders.{Ledger, ledger-all, ledger-past, ledger-on, ledger-done, ledger-standing}
+use Rattle.fundings.proofs.Funders.{Ledger, ledger-all, ledger-past, ledger-on, ledger-done, ledger-inside}
 
 abbrev pub Entries : (file : List ℕ) → Fields → List Funding → Type 0
 Entries file rest maps = (m : List ℕ) → Ledger file m (number_of_map file m maps) rest
@@ -24,8 +23,8 @@ module _ (file : List ℕ) (rest : Fields) (maps : List Funding) (i : Entries fi
   entries-done w m = ledger-done file m (number_of_map file m maps) rest (i m) w
 
   module _ (f : Found) (behind : Fields) (h : Step rest f behind) where
-    pub entries-standing : length file ≤ 32768 → Standing file f.place 0
-    entries-standing s = ledger-standing file [] (number_of_map file [] maps) rest (i []) f behind h s
+    pub entries-inside : f.place ≤ length file
+    entries-inside = ledger-inside file [] (number_of_map file [] maps) rest (i []) f behind h
 
     module _ (g : ℕ) (e : g ≡ tag (front f.part.now)) where
       pub entries-past : (g ≡ Entry → ⊥) → Entries file behind maps

@@ -17,15 +17,14 @@ use Rattle.fields.specs.Table.{Listed, fields_at}
 use Rattle.fields.specs.declared.named.Named.{Named}
 use Rattle.fields.specs.declared.table.Table.{Table}
 use Rattle.walking.specs.Walking.{ident, receiver, exprs, body_exprs, peel, asset_amount_backer}
-use Rattle.walking.specs.Assets.{named_assets, Assets}
-use Rattle.walking.proofs.Assets.{no-assets}
+use Rattle.walking.specs.Assets.{Assets}
+use Rattle.walking.proofs.Assets.{any-listed}
 use Rattle.walking.specs.Table.{placed_at, places_of}
 use Rattle.tokens.specs.Tokens.{is_inflow, is_funding}
-use Rattle.tokens.specs.Numbers.{token_of, joined, tokens_number, Standing}
+use Rattle.tokens.specs.Numbers.{token_of, joined, tokens_number}
 use Rattle.tokens.proofs.Joining.{joined-again, joined-first, joined-empty}
-use Rattle.fundings.specs.declared.ledger.Funder.{Funder}
+use Rattle.fundings.specs.declared.funder.Funder.{Funder}
 use Rattle.fundings.specs.declared.ledger.Funding.{Funding}
-use Rattle.fundings.specs.Funder.{FunderOf}
 use Rattle.fundings.specs.Fundings.{is_funding_call, funded_by, is_map, number_of_map, joined_if, Joins, EntryJoins}
 use Rattle.fundings.proofs.Calls.{calls-front, funding-either, funding-named, funding-inside, calls-fund, none-funds, first-on}
 use Rattle.fundings.proofs.Maps.{number-there, number-written, number-behind, number-empty, none-passes}
@@ -142,19 +141,22 @@ module _ (file : List ℕ) (e : Field) (further : ℕ) where
             any_append (is_funding m e) (fields_at file (take i calls)) (front (drop call file) ∷ []),
           ))
 
+-- what is known of an entry whose calls may fund maps
+pub funder-known : (e : Funder) → (length e.entry.file.now ≤ 32768) × Assets (drop e.entry.place e.entry.file.now) e.assets
+funder-known e = (e.entry.short, e.listed)
+
 -- A call of the entry at a place
-module _ (file : List ℕ) (n : ℕ) (y : List ℕ) (o : y ≡ drop n file) (call : ℕ) (x : List ℕ) (f : x ≡ drop call file)
-    (b : Bool) (g : b ≡ is_funding_call (front y) (front x)) (further : ℕ) (old : List Funding) where
+module _ (file : List ℕ) (n call : ℕ) (b : Bool) (g : b ≡ is_funding_call (front (drop n file)) (front (drop call file))) (further : ℕ) (old : List Funding) where
   abbrev pub call_there : Field
   call_there = front (drop call file)
 
   -- that funds no map
   pub joins-nothing : b ≡ false → Joins file (funded_by (front (drop n file)) (call_there ∷ [])) further old old
-  joins-nothing h = joins-none file further old _ (λ m. one_call (front (drop n file)) call_there m ∙ rw (← o, ← f, ← g, h))
+  joins-nothing h = joins-none file further old _ (λ m. one_call (front (drop n file)) call_there m ∙ rw (← g, h))
 
   -- and one that funds its own
   funds-one : b ≡ true → is_funding_call (front (drop n file)) call_there ≡ true
-  funds-one h = rw (← o, ← f, ← g) h
+  funds-one h = rw (← g) h
 
   pub joins-own : b ≡ true → (last : List Funding) → Joins file (same_bytes (ident (front (drop (call + 6) file)))) further old last →
       Joins file (funded_by (front (drop n file)) (call_there ∷ [])) further old last
@@ -163,21 +165,22 @@ module _ (file : List ℕ) (n : ℕ) (y : List ℕ) (o : y ≡ drop n file) (cal
       (λ m. sym (one_call (front (drop n file)) call_there m ∙ rw (← funding-named file (front (drop n file)) call (funds-one h), funds-one h)))
 
   -- which stands in the file
-  pub call-small : b ≡ true → (assets : Table Named) (en : Funder) → FunderOf file assets en → call < 32768
-  call-small h assets en w = omega (arith, w.short, funding-inside file (front (drop n file)) call (funds-one h))
+  pub call-small : b ≡ true → length file ≤ 32768 → call < 32768
+  call-small h short = omega (arith, short, funding-inside file (front (drop n file)) call (funds-one h))
 
 -- All calls of the entry
 
-module _ (file : List ℕ) (n : ℕ) (h : Standing file n 0) (old : List Funding) where
+module _ (file : List ℕ) (n : ℕ) (h : length file ≤ 32768) (old : List Funding) where
   abbrev entry : Field
   entry = front (drop n file)
 
   -- one without asset parameters
-  module _ (x : List ℕ) (t : List Named) (u : Table Named) (e : x ≡ drop n file) (l : Listed (named_assets (front x)) t 0 u.items.now u.count) (z : u.count ≡ 0) where
+  module _ (assets : Table Named) (a : Assets (drop n file) assets) (z : assets.count ≡ 0) where
     no_call : (m : List ℕ) (f : Field) → is_funding m entry f ≡ false
     unfolding is_funding_call is_inflow
     no_call m f =
-        funding-either m entry f ∙ rw (no-assets (drop n file) x t u e l z (asset_amount_backer (peel (part 2 f))), and-false)
+        let none = any-listed (drop n file) (asset_amount_backer (peel (part 2 f))) assets a (rw z (omega arith)) [] (rw z refl) in
+        funding-either m entry f ∙ rw (← none, and-false)
 
     pub joins-unasked : EntryJoins file n old old
     unfolding funded_by
@@ -186,24 +189,19 @@ module _ (file : List ℕ) (n : ℕ) (h : Standing file n 0) (old : List Funding
   module _ (zeros calls : List ℕ) (count : ℕ) (l : Listed (places_of Call (body_exprs (placed_at file n))) zeros 0 calls count) (w : count ≤ length zeros)
       (ks : List ℕ) (c : ks ≡ take count calls) where
     calls-decide : (m : List ℕ) → funded_by entry (fields_at file ks) m ≡ funded_by entry (exprs entry) m
-    calls-decide m = rw (c, calls-front file n zeros calls count l w) (calls-fund file n (omega (arith, h.short)) m)
+    calls-decide m = rw (c, calls-front file n zeros calls count l w) (calls-fund file n (omega (arith, h)) m)
 
     module _ (named : ℕ) (t : named ≡ tokens_number file (placed_at file n)) (last : List Funding) where
       pub joins-all : Joins file (funded_by entry (fields_at file ks)) named old last → EntryJoins file n old last
       joins-all p = rw (← t) (joins-same file named old _ last p _ calls-decide)
 
       -- none before the first that funds some map funds any
-      pub joins-from : (y : List ℕ) → y ≡ drop n file → (i : ℕ) → position (λ call. is_funding_call (front y) (front (drop call file))) ks ≡ Some i →
+      pub joins-from : (i : ℕ) → position (λ call. is_funding_call entry (front (drop call file))) ks ≡ Some i →
           (d : List ℕ) → d ≡ drop i ks → Joins file (funded_by entry (fields_at file d)) named old last → EntryJoins file n old last
-      joins-from y o i a d e p =
-          rw (← t) (joins-same file named old _ last p _ (λ m. rw e (first-on file entry ks i (rw o at a) m ∙ calls-decide m)))
+      joins-from i a d e p =
+          rw (← t) (joins-same file named old _ last p _ (λ m. rw e (first-on file entry ks i a m ∙ calls-decide m)))
 
     -- and none at all where there is none
-    pub joins-free : (y : List ℕ) → y ≡ drop n file → position (λ call. is_funding_call (front y) (front (drop call file))) ks ≡ None → EntryJoins file n old old
-    joins-free y o a =
-        joins-none file (tokens_number file (placed_at file n)) old _ (λ m. sym (calls-decide m) ∙ none-funds file entry ks (rw o at a) m)
-
--- what is known of it
-pub funder-known : (file : List ℕ) (n : ℕ) → Standing file n 0 → (assets : Table Named) → Assets (drop n file) assets →
-    (named : ℕ) → named ≡ tokens_number file (placed_at file n) → FunderOf file assets (record { place = n; named = named })
-funder-known file n h assets a named t = record { short = h.short; listed = a; named = t }
+    pub joins-free : position (λ call. is_funding_call entry (front (drop call file))) ks ≡ None → EntryJoins file n old old
+    joins-free a =
+        joins-none file (tokens_number file (placed_at file n)) old _ (λ m. sym (calls-decide m) ∙ none-funds file entry ks a m)

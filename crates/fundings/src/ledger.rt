@@ -5,24 +5,25 @@ ghost use Rattle.laws.specs.Texts.{same_bytes};
 ghost use Rattle.fields.specs.Field.{front};
 ghost use Rattle.fields.specs.Number.{short_number};
 ghost use Rattle.fields.specs.Table.{fields_at as fields_there};
-ghost use Rattle.walking.specs.Assets.{Assets};
+ghost use Rattle.walking.specs.Table.{placed_at};
 ghost use Rattle.walking.specs.Walking.{ident};
-ghost use Rattle.tokens.specs.Numbers.{joined, Standing};
+ghost use Rattle.tokens.specs.Numbers.{joined, tokens_number};
 ghost use Rattle.fundings.specs.Fundings.{is_funding_call, is_map, number_of_map};
 ghost use Rattle.fundings.specs.Fundings.{Joins, EntryJoins, EachMap};
-ghost use Rattle.fundings.specs.Funder.{FunderOf, CallsJoin};
+ghost use Rattle.fundings.specs.Funder.{entry_of, CallsJoin};
 
+use super::funder::{Funder, list_funder};
 use arrayvec::{ArrayVec, CapacityError};
 use fields::bytes::{same_bytes, skip};
 use fields::front::part_of;
 use fields::named::Named;
 use fields::number::short_number;
 use fields::row::fields_at;
-use fields::table::Table;
 use tags::{CALL, ENTRY};
+use tokens::entry::{EntryPlace, entry_at};
 use tokens::inflow::{is_credit, is_listed_inflow};
 use tokens::number::{join, tokens_number};
-use walking::parameters::{MOST_ASSETS, list_assets};
+use walking::parameters::MOST_ASSETS;
 use walking::peel::peel;
 use walking::shape::ident;
 use walking::walk::list_body;
@@ -45,30 +46,24 @@ const MOST_MAPS: usize = 1057;
 // The listed maps, each once.
 pub type Fundings = ArrayVec<Funding, MOST_MAPS>;
 
-// An entry that funds maps: its place in the file, and the set that it names.
-#[derive(Clone, Copy)]
-pub struct Funder {
-    pub place: usize,
-    pub named: u16,
-}
-
-// Whether the call at the front of s funds some map. The asset parameters of the entry are listed.
-fn is_funding_call(entry: &[u8], assets: &Table<Named>, s: &[u8]) -> bool
-    requires { Assets entry.now assets.now }
-    ensures { result ≡ is_funding_call (front entry.now) (front s.now) }
+// Whether the call at a place of the file funds some map, in the entry.
+fn is_funding_call(funder: &Funder, call: usize) -> bool
+    ensures { result ≡ is_funding_call (entry_of funder.now) (front (drop call funder.now.entry.file.now)) }
 {
+    let s = skip(funder.entry.file, call);
     if !is_credit(s) {
         return false;
     }
-    is_listed_inflow(entry, assets, peel(part_of(s, 2)))
+    is_listed_inflow(funder.entry.part(), &funder.assets, peel(part_of(s, 2)))
 }
 
 // The first of the calls at some places of the file that funds some map, by its index among them.
-fn first_funding(file: &[u8], entry: &[u8], assets: &Table<Named>, calls: &[u16]) -> Option<usize>
-    requires { Assets entry.now assets.now }
-    ensures { result ≡ position (λ call. is_funding_call (front entry.now) (front (drop call file.now))) calls.now }
+fn first_funding(funder: &Funder, calls: &[u16]) -> Option<usize>
+    ensures { result ≡ position (λ call. is_funding_call (entry_of funder.now) (front (drop call funder.now.entry.file.now))) calls.now }
 {
-    calls.iter().position(|&call| is_funding_call(entry, assets, skip(file, usize::from(call))))
+    calls
+        .iter()
+        .position(|&call| is_funding_call(funder, usize::from(call)))
 }
 
 // Whether what is listed is the map, whose name has that number. A name is read only where its number is equal.
@@ -105,6 +100,7 @@ pub fn number_of_map(file: &[u8], map: &[u8], maps: &[Funding]) -> usize
 fn join_tokens(file: &[u8], a: u16, b: u16) -> u16
     ensures { result ≡ joined file.now a b }
 {
+    // Two bytes hold what two numbers of two bytes give: try_from would have to answer for what can't be.
     join(file, usize::from(a), usize::from(b)) as u16
 }
 
@@ -126,6 +122,7 @@ fn join_map(
     }
     maps.try_push(Funding {
         number: short_number(map),
+        // The contract has it small: try_from would have to answer for what can't be.
         place: place as u16,
         tokens: named,
     })
@@ -133,90 +130,82 @@ fn join_map(
 
 // The same of a call of the entry, which may fund no map. One that does names it behind two heads, its own and its callee's.
 fn list_call(
-    file: &[u8],
-    entry: Funder,
-    assets: &Table<Named>,
+    funder: &Funder,
+    named: u16,
     call: usize,
     maps: &mut Fundings,
 ) -> Result<(), CapacityError<Funding>>
-    requires { FunderOf file.now assets.now entry }
-    ensures { OnOk result (CallsJoin file.now entry (front (drop call file.now) ∷ []) maps.old.items maps.new.items) }
+    ensures { OnOk result (CallsJoin funder.now (front (drop call funder.now.entry.file.now) ∷ []) named maps.old.items maps.new.items) }
 {
-    if !is_funding_call(skip(file, entry.place), assets, skip(file, call)) {
+    if !is_funding_call(funder, call) {
         return Ok(());
     }
-    join_map(file, call + 6, entry.named, maps)
+    join_map(funder.entry.file, call + 6, named, maps)
 }
 
 // The same of the calls at some places of the file.
 fn list_calls(
-    file: &[u8],
-    entry: Funder,
-    assets: &Table<Named>,
+    funder: &Funder,
+    named: u16,
     calls: &[u16],
     maps: &mut Fundings,
 ) -> Result<(), CapacityError<Funding>>
-    requires { FunderOf file.now assets.now entry }
-    ensures { OnOk result (CallsJoin file.now entry (fields_there file.now calls.now) maps.old.items maps.new.items) }
+    ensures { OnOk result (CallsJoin funder.now (fields_there funder.now.entry.file.now calls.now) named maps.old.items maps.new.items) }
 {
     for &call in calls {
-        list_call(file, entry, assets, usize::from(call), maps)?;
+        list_call(funder, named, usize::from(call), maps)?;
     }
     Ok(())
 }
 
+// What an entry names, as the tables have it.
+fn named_tokens(entry: &EntryPlace, scratch: &mut [u16]) -> u16
+    requires { length entry.now.file.now ≤ 3 * length scratch.old }
+    ensures { result ≡ tokens_number entry.now.file.now (placed_at entry.now.file.now entry.now.place) }
+{
+    // tokens_number says that it is small: try_from would have to answer for what can't be.
+    tokens_number(entry, scratch) as u16
+}
+
 // The same of all calls of an entry that has many. What it names is worked out first, since the scratch table serves for both.
 fn list_many(
-    file: &[u8],
-    place: usize,
-    assets: &Table<Named>,
+    funder: &Funder,
     maps: &mut Fundings,
     scratch: &mut [u16],
 ) -> Result<(), CapacityError<Funding>>
-    requires standing { Standing file.now place 0 }
-    requires assets { Assets (drop place file.now) assets.now }
-    requires room { length file.now ≤ 3 * length scratch.old }
-    ensures { OnOk result (EntryJoins file.now place maps.old.items maps.new.items) }
+    requires { length funder.now.entry.file.now ≤ 3 * length scratch.old }
+    ensures { OnOk result (EntryJoins funder.now.entry.file.now funder.now.entry.place maps.old.items maps.new.items) }
 {
-    let funder = Funder {
-        place: place,
-        named: tokens_number(file, place, scratch) as u16,
-    };
-    let calls = list_body(file, place, CALL, scratch);
-    list_calls(file, funder, assets, calls.listed(), maps)
+    let named = named_tokens(&funder.entry, scratch);
+    let calls = list_body(funder.entry.file, funder.entry.place, CALL, scratch);
+    list_calls(funder, named, calls.listed(), maps)
 }
 
 // The same of any entry. One without asset parameters funds nothing, so its body is not walked, and what an entry names is worked
 // out only where a call asks for it.
 fn list_entry(
-    file: &[u8],
-    place: usize,
+    entry: &EntryPlace,
     maps: &mut Fundings,
-    named: &mut [Named],
+    assets: &mut [Named],
     scratch: &mut [u16],
 ) -> Result<(), CapacityError<Funding>>
-    requires standing { Standing file.now place 0 }
-    requires room { length file.now ≤ 3 * length scratch.old }
-    ensures { OnOk result (EntryJoins file.now place maps.old.items maps.new.items) }
+    requires { length entry.now.file.now ≤ 3 * length scratch.old }
+    ensures { OnOk result (EntryJoins entry.now.file.now entry.now.place maps.old.items maps.new.items) }
 {
-    let entry = skip(file, place);
-    let assets = list_assets(entry, named);
-    if assets.count == 0 {
+    let funder = list_funder(entry, assets);
+    if funder.assets.count == 0 {
         return Ok(());
     }
     let mut few = [0u16; FEW];
-    let calls = list_body(file, place, CALL, &mut few);
+    let calls = list_body(entry.file, entry.place, CALL, &mut few);
     if FEW < calls.count {
-        return list_many(file, place, &assets, maps, scratch);
+        return list_many(&funder, maps, scratch);
     }
-    let Some(first) = first_funding(file, entry, &assets, calls.listed()) else {
+    let Some(first) = first_funding(&funder, calls.listed()) else {
         return Ok(());
     };
-    let funder = Funder {
-        place: place,
-        named: tokens_number(file, place, scratch) as u16,
-    };
-    list_calls(file, funder, &assets, skip(calls.listed(), first), maps)
+    let named = named_tokens(entry, scratch);
+    list_calls(&funder, named, skip(calls.listed(), first), maps)
 }
 
 // Lists all maps of the file that some call funds, in place of what was listed before; an error says that one found no room. There is
@@ -231,12 +220,13 @@ pub fn list_fundings(
     ensures { OnOk result (EachMap file.now maps.new.items) }
 {
     maps.clear();
-    let mut named = [Named::default(); MOST_ASSETS];
+    let mut assets = [Named::default(); MOST_ASSETS];
     for field in fields_at(file, 0) {
         if field.tag() != ENTRY {
             continue;
         }
-        list_entry(file, field.place, maps, &mut named, scratch)?;
+        let entry = entry_at(file, field.place);
+        list_entry(&entry, maps, &mut assets, scratch)?;
     }
     Ok(())
 }

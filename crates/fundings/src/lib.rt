@@ -2,6 +2,7 @@
 #![tactic(auto)]
 
 pub mod facts;
+pub mod funder;
 pub mod funding;
 pub mod ledger;
 pub mod token;

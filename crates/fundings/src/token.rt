@@ -1,30 +1,30 @@
 // SPDX-License-Identifier: Apache-2.0 OR MIT
 // The token that funds a map, read from the whole file. It is a part of the file, and no token is the empty part.
-ghost use Rattle.std.specs.Prelude.{◌≡◌, cond, ◌*◌, ◌≤◌, ◌<◌, length, take, drop};
+ghost use Rattle.std.specs.Prelude.{◌≡◌, ◌*◌, ◌≤◌, ◌<◌, length, take, drop};
 ghost use Rattle.fields.specs.Field.{fields, front};
 ghost use Rattle.walking.specs.Table.{placed_at};
-ghost use Rattle.tokens.specs.Numbers.{joined, tokens_number, Standing};
+ghost use Rattle.tokens.specs.Numbers.{tokens_number};
 ghost use Rattle.tokens.specs.Place.{token_place};
 ghost use Rattle.fundings.specs.FundingTokens.{funds, funding_token};
-ghost use Rattle.fundings.specs.Fundings.{funding_number};
+ghost use Rattle.fundings.specs.Fundings.{funding_number, joined_if};
 
 use super::funding::entry_funds;
-use fields::bytes::skip;
 use fields::row::fields_at;
 use tags::ENTRY;
+use tokens::entry::{EntryPlace, entry_at};
 use tokens::number::{join, token_of, tokens_number};
 use walking::walk::MOST_FIELDS;
 
-// The set found so far, with what the entry at a place names if it funds the map.
-fn joined_with(file: &[u8], map: &[u8], found: usize, place: usize, table: &mut [u16]) -> usize
-    requires standing { Standing file.now place 0 }
-    requires room { length file.now ≤ 3 * length table.old }
-    ensures { result ≡ cond (funds map.now (front (drop place file.now))) (joined file.now found (tokens_number file.now (placed_at file.now place))) found }
+// The set found so far, with what an entry names if it funds the map.
+fn joined_with(entry: &EntryPlace, map: &[u8], found: usize, table: &mut [u16]) -> usize
+    requires { length entry.now.file.now ≤ 3 * length table.old }
+    ensures { result ≡ joined_if entry.now.file.now (funds map.now (front (drop entry.now.place entry.now.file.now))) found
+        (tokens_number entry.now.file.now (placed_at entry.now.file.now entry.now.place)) }
 {
-    if !entry_funds(skip(file, place), map) {
+    if !entry_funds(entry.part(), map) {
         return found;
     }
-    join(file, found, tokens_number(file, place, table))
+    join(entry.file, found, tokens_number(entry, table))
 }
 
 // The set of the tokens named by the entries that fund the map. The search ends where two differ.
@@ -39,7 +39,7 @@ pub fn ledger_funding_number(file: &[u8], map: &[u8]) -> usize
         if field.tag() != ENTRY {
             continue;
         }
-        found = joined_with(file, map, found, field.place, &mut table);
+        found = joined_with(&entry_at(file, field.place), map, found, &mut table);
         if found == 1 {
             return 1;
         }

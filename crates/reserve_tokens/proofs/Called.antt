@@ -1,7 +1,7 @@
 -- The calls of an entry's body are all in the table, and a test that only a call passes needs no others.
-use Rattle.std.proofs.Common.{ℕ, ◌≤◌, ◌≡◌, refl, sym, ◌∙◌, Bool, true, false, cond, not, ◌&&◌, List, [], ◌∷◌, None, Some, arith, eqb, length, drop}
-use mathlib.Core.Bool.{and-true, and-false}
-use borrow.Author.Tests.{not-true, not-false}
+use Rattle.std.proofs.Common.{ℕ, ◌≤◌, ◌≡◌, refl, sym, ◌∙◌, Bool, true, false, cond, ◌&&◌, ◌||◌, List, [], ◌∷◌, Option, None, Some, arith, eqb, length, drop}
+use Rattle.std.specs.Option.{option_map}
+use Rattle.std.proofs.lemmas.Iterator.Adapters.{option_map_id}
 use Rattle.laws.specs.Texts.{same_bytes}
 use Rattle.laws.specs.Lists.{any, filter, find}
 use Rattle.laws.proofs.Truths.{and_left}
@@ -37,15 +37,44 @@ pub amount-call : (kind : Field → Bool) → ((f : Field) → kind f ≡ true �
 unfolding with_amount
 amount-call kind implies v f h = implies f (and_left (kind f) (expr_eq (peel (part 2 f)) v) h)
 
--- what the code tests: a call of another amount fails, and of one with the amount its kind decides
-module _ (kind : Field → Bool) (v f : Field) (p x : List ℕ) (g : front p ≡ part 2 f) (i : front x ≡ peel (front p)) (b : Bool) (k : b ≡ expr_eq (front x) v) where
-  pub other-amount : not b ≡ true → false ≡ with_amount kind v f
-  unfolding with_amount
-  other-amount h = sym (rw (← g, ← i, ← k, not-true b h) (and-false (kind f)))
+-- What the code tests: a kind is asked of the calls of the amount alone
 
-  pub by_kind : not b ≡ false → (a : Bool) → a ≡ kind f → a ≡ with_amount kind v f
+any-both : {A : Type 0} (p q : A → Bool) (l : List A) → any p (filter q l) ≡ any (λ x. p x && q x) l
+any-both p q [] = refl
+any-both p q (x ∷ xs) = go (q x) (p x) refl (any-both p q xs)
+  where
+    go : (j k : Bool) → p x ≡ k → any p (filter q xs) ≡ any (λ y. p y && q y) xs →
+        any p (cond j (x ∷ filter q xs) (filter q xs)) ≡ k && j || any (λ y. p y && q y) xs
+    go true true e b = rw e
+    go true false e b = rw (e, b)
+    go false true e b = b
+    go false false e b = b
+
+find-both : {A : Type 0} (p q : A → Bool) (l : List A) → find p (filter q l) ≡ find (λ x. p x && q x) l
+find-both p q [] = refl
+find-both p q (x ∷ xs) = go (q x) (p x) refl (find-both p q xs)
+  where
+    go : (j k : Bool) → p x ≡ k → find p (filter q xs) ≡ find (λ y. p y && q y) xs →
+        find p (cond j (x ∷ filter q xs) (filter q xs)) ≡ cond (k && j) (Some x) (find (λ y. p y && q y) xs)
+    go true true e b = rw e
+    go true false e b = rw (e, b)
+    go false true e b = b
+    go false false e b = b
+
+module _ (kind : Field → Bool) (v : Field) (file calls : List ℕ) where
+  -- the calls of the amount
+  abbrev pub of_amount : ℕ → Bool
+  of_amount call = expr_eq (peel (part 2 (front (drop call file)))) v
+
+  pub any-of_amount : (r : Bool) → r ≡ any (λ call. kind (front (drop call file))) (filter of_amount calls) →
+      r ≡ any (λ call. with_amount kind v (front (drop call file))) calls
   unfolding with_amount
-  by_kind h a e = e ∙ sym (rw (← g, ← i, ← k, not-false b h) (and-true (kind f)))
+  any-of_amount r e = e ∙ any-both (λ call. kind (front (drop call file))) of_amount calls
+
+  pub find-of_amount : (r : Option ℕ) → option_map (λ call. call) r ≡ find (λ call. kind (front (drop call file))) (filter of_amount calls) →
+      r ≡ find (λ call. with_amount kind v (front (drop call file))) calls
+  unfolding with_amount
+  find-of_amount r e = sym (option_map_id r) ∙ e ∙ find-both (λ call. kind (front (drop call file))) of_amount calls
 
 -- Whether some call passes: no other field does
 
@@ -55,9 +84,9 @@ credited-any entry v fs e = rw e (any-first (with_amount is_credit v) is_call (a
 
 -- The first debit of the amount is the first call that passes
 
-find-both : {A : Type 0} (p q : A → Bool) (l : List A) → find p (filter q l) ≡ find (λ x. q x && p x) l
-find-both p q [] = refl
-find-both p q (x ∷ xs) = go (q x) (p x) refl (find-both p q xs)
+find-among : {A : Type 0} (p q : A → Bool) (l : List A) → find p (filter q l) ≡ find (λ x. q x && p x) l
+find-among p q [] = refl
+find-among p q (x ∷ xs) = go (q x) (p x) refl (find-among p q xs)
   where
     go : (j k : Bool) → p x ≡ k → find p (filter q xs) ≡ find (λ y. q y && p y) xs →
         find p (cond j (x ∷ filter q xs) (filter q xs)) ≡ cond (j && k) (Some x) (find (λ y. q y && p y) xs)
@@ -79,7 +108,7 @@ pub debit-found : (entry v : Field) (fs : List Field) → fs ≡ filter is_call 
     find (λ d. expr_eq (peel (part 2 d)) v) (debits entry) ≡ find (with_amount is_debit v) fs
 unfolding debits with_amount
 debit-found entry v fs e =
-    find-both (λ d. expr_eq (peel (part 2 d)) v) is_debit (exprs entry)
+    find-among (λ d. expr_eq (peel (part 2 d)) v) is_debit (exprs entry)
     ∙ sym (rw e (find-implied (with_amount is_debit v) is_call (amount-call is_debit debit-call v) (exprs entry)))
 
 -- A test of the fields at some places, place by place

@@ -9,6 +9,7 @@ use Rattle.fields.specs.Field.{Placed, fields, whole, front, tag, parts, placed,
 use Rattle.fields.specs.Row.{shown, left, Step}
 use Rattle.fields.specs.declared.field.Fields.{Fields}
 use Rattle.fields.specs.declared.field.Field.{Field as Found}
+use Rattle.fields.proofs.Reading.{front-none}
 use Rattle.fields.proofs.InARow.{left-next, placed-end}
 use Rattle.fields.proofs.Inside.{Stands, parts-stand}
 use Rattle.walking.specs.Table.{placed_at}
@@ -61,13 +62,22 @@ pub record Guarding (file : List ℕ) (found r : ℕ) (rest : Fields) : Type 0 w
   pub stands : Every (Stands file) (left rest)
   pub ahead : only_of found (map (guard_number file) (guards_among (left rest))) ≡ r
 
-pub guarding-all : (file : List ℕ) (n : ℕ) (s : List ℕ) → s ≡ drop n file → (p : List ℕ) → fields p ≡ parts (front s) →
-    (it all : Fields) → all ≡ it → it.rest.now ≡ p → it.place ≡ n + 3 → Guarding file 0 (only_number (guard_numbers file (placed_at file n))) all
-unfolding guard_numbers placed_from
-guarding-all file n s e p f it all y r z = record {
-  stands = rw (y, r, z, f, e) (parts-stand file (placed_at file n) refl);
-  ahead = rw (y, r, z, f, e) (only_none (map (guard_number file) (guards_among (placed (n + 3) (parts (front (drop n file)))))));
-}
+module _ (file : List ℕ) (n : ℕ) (it : Fields) (t : it.rest.now ≡ drop n file) where
+  pub no-entry : whole it.rest.now ≡ false → 0 ≡ only_number (guard_numbers file (placed_at file n))
+  unfolding guard_numbers placed_from placed only_number
+  no-entry w = let none = front-none (drop n file) (rw t at w) in rw none
+
+  pub guarding-all : (z : it.place ≡ n) (f : Found) (behind : Fields) → Step it f behind →
+      (row all : Fields) → all ≡ row → fields row.rest.now ≡ parts (front f.part.now) → row.place ≡ f.place + 3 →
+      Guarding file 0 (only_number (guard_numbers file (placed_at file n))) all
+  unfolding guard_numbers placed_from
+  guarding-all z f behind h row all y r p =
+      let here : f.part.now ≡ drop n file = h.part ∙ t in
+      let there : row.place ≡ n + 3 = rw (p, h.place, z) in
+      record {
+        stands = rw (y, there, r, here) (parts-stand file (placed_at file n) refl);
+        ahead = rw (y, there, r, here) (only_none (map (guard_number file) (guards_among (placed (n + 3) (parts (front (drop n file)))))));
+      }
 
 module _ (file : List ℕ) (found r : ℕ) (rest : Fields) (i : Guarding file found r rest) where
   pub guarding-end : whole rest.rest.now ≡ false → found ≡ r

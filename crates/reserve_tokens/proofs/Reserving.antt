@@ -1,16 +1,24 @@
 -- Entry by entry, and in each raise by raise: the number agreed on so far and those of the raises ahead agree on that of all.
-use Rattle.std.proofs.Common.{ℕ, suc, ◌+◌, ◌≤◌, ◌<◌, ◌≡◌, refl, sym, ap, ◌∙◌, Bool, true, false, cond, not, List, [], ◌∷◌, ◌++◌, map, arith, add-one, eq-eqb, ne_eqb, length, get_or, drop, drop-cons, drop_of_length-le}
+use Rattle.std.proofs.Common.{ℕ, suc, ◌+◌, ◌≤◌, ◌<◌, ◌≡◌, refl, sym, ◌∙◌, Bool, true, false, cond, not}
+use Rattle.std.proofs.Common.{List, [], ◌∷◌, ◌++◌, map, arith, add-one, eq-eqb, ne_eqb, length, get_or, drop, drop-cons, drop_of_length-le}
 use mathlib.Core.List.{flat_map}
 use borrow.Author.Tests.{not-true}
+use denote.Param.Members.{Mut}
+use denote.Ref.{Bor}
+use Rattle.std.specs.Fn.{CalledAt}
+use Rattle.std.specs.Iterator.Adapters.{filter_source, filter_callee, filter_steps}
+use Rattle.std.specs.declared.iter.Filter.{Filter}
+use Rattle.std.proofs.lemmas.Iterator.{YieldsList}
+use Rattle.std.proofs.lemmas.Iterator.Consumers.{YieldsList-at, YieldsList-from_filter}
 use Rattle.laws.specs.Lists.{filter}
 use Rattle.tags.specs.Tag.{Entry, between}
 use Rattle.tags.proofs.Ranges.{between-one}
 use Rattle.fields.specs.Field.{Field, Placed, fields, row, whole, front, tag, parts, placed_from}
-use Rattle.fields.specs.Row.{left, Step}
+use Rattle.fields.specs.Row.{left, Step, Steps}
 use Rattle.fields.specs.declared.field.Fields.{Fields}
 use Rattle.fields.specs.declared.field.Field.{Field as Item}
 use Rattle.fields.proofs.EndOf.{EndOf, end-there}
-use Rattle.fields.proofs.InARow.{left-next, placed-end}
+use Rattle.fields.proofs.InARow.{along-row, left-next, placed-end}
 use Rattle.model.specs.Model.{body, entries}
 use Rattle.walking.specs.Table.{placed_at}
 use Rattle.tokens.specs.Numbers.{token_of}
@@ -33,6 +41,15 @@ pub ones-read : (file name : List ℕ) (place : ℕ) (x : List ℕ) → x ≡ dr
 unfolding body
 ones-read file name place x d p t e f = rw (f, e, d) (sym (raises-in name (parts (front (drop place file)))))
 
+-- the code filters the row of the entry's parts by that test
+pub along-raises : {F : Type 0} (g : Mut F (Bor Item × Unit {0}) Bool) {f : F} (file name : List ℕ) (place : ℕ) (x : List ℕ) → x ≡ drop place file →
+    (p : List ℕ) → fields p ≡ parts (front x) → (all : Fields) → all.rest.now ≡ p → (ones it : Filter Fields F) → it ≡ ones → filter_source ones ≡ all →
+    filter_callee ones ≡ f → ((x : Item) (b : Bool) (q : F) → CalledAt g f x b q → (q ≡ f) × (b ≡ is_raise name (front x.part.now))) →
+    YieldsList (filter_steps Steps g) (λ p. front p.part.now) it (raising_ones name (placed_at file place))
+along-raises g file name place x d p e all t ones it y z o k =
+    let read = ones-read file name place x d p all.rest.now e t in
+    rw read at (YieldsList-at y (YieldsList-from_filter g (is_raise name) (YieldsList-at z (along-row all)) o k))
+
 -- n of them are passed: the number agreed on so far and those of the raises ahead agree on that of all
 pub record Raises (file name : List ℕ) (entry : Placed) (before now n : ℕ) : Type 0 where
   pub found : Found file now
@@ -53,20 +70,20 @@ pub still-barred : (file : List ℕ) (before : ℕ) (ns : List ℕ) → before �
 unfolding agreed_after
 still-barred file before ns e = rw e (record { found = λ n. absurd (n refl); left = λ rest. refl })
 
-module _ (file name : List ℕ) (entry : Placed) (before now n : ℕ) (i : Raises file name entry before now n) (all : List Field) (d : all ≡ raising_ones name entry) where
-  pub raises-done : n ≡ length all → Agreeing file before (numbers_in file name entry) now
+module _ (file name : List ℕ) (entry : Placed) (before now n : ℕ) (i : Raises file name entry before now n) where
+  pub raises-done : n ≡ length (raising_ones name entry) → Agreeing file before (numbers_in file name entry) now
   raises-done e =
-      let none : drop n (raising_ones name entry) ≡ [] = drop_of_length-le (raising_ones name entry) (omega (arith, e, ap length d)) in
+      let none : drop n (raising_ones name entry) ≡ [] = drop_of_length-le (raising_ones name entry) (omega (arith, e)) in
       record { found = λ z. i.found; left = λ rest. found-left file now (λ z. omega (arith, i.found.some, z)) rest ∙ (rw none at (i.left rest)) }
 
-  module _ (x : Field) (h : (n < length all) × (x ≡ get_or all n x)) (amount : List ℕ) (a : front amount ≡ raised_by name x) (number : ℕ)
+  module _ (x : Field) (h : (n < length (raising_ones name entry)) × (x ≡ get_or (raising_ones name entry) n x)) (amount : List ℕ) (a : front amount ≡ raised_by name x) (number : ℕ)
       (k : number ≡ raise_number file entry (front amount)) (b : Bool) (f : b ≡ bars (token_of file now) (token_of file number)) where
     -- the numbers behind it
     abbrev ahead : List ℕ
     ahead = map (raise_number file entry) (map (raised_by name) (drop (suc n) (raising_ones name entry)))
 
     next-one : drop n (raising_ones name entry) ≡ x ∷ drop (suc n) (raising_ones name entry)
-    next-one = rw (← d, drop-cons all n x h.0, ← h.1)
+    next-one = rw (drop-cons (raising_ones name entry) n x h.0, ← h.1)
 
     here : (rest : List ℕ) → cond b 1 (agreed file number (ahead ++ rest)) ≡ agreed_after file before (numbers_in file name entry ++ rest)
     unfolding agreed

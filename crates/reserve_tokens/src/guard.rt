@@ -1,6 +1,6 @@
 // SPDX-License-Identifier: Apache-2.0 OR MIT
 // The token that the guards of an entry's body name. Clauses play no part.
-ghost use Rattle.std.specs.Prelude.{◌≡◌, ◌≤◌, length};
+ghost use Rattle.std.specs.Prelude.{◌≡◌};
 ghost use Rattle.walking.specs.Table.{placed_at};
 ghost use Rattle.reserve_tokens.specs.Numbers.{guard_number, guard_numbers, only_number};
 
@@ -33,11 +33,13 @@ fn guard_number(file: &[u8], at: usize) -> usize
 
 // The number of the token that exactly one guard of the entry at a place names; 0 where none does, or a second.
 pub fn only_guard_number(file: &[u8], place: usize) -> usize
-    requires { place ≤ length file.now }
     ensures { result ≡ only_number (guard_numbers file.now (placed_at file.now place)) }
 {
+    let Some(entry) = fields_at(skip(file, place), place).next() else {
+        return 0;
+    };
     let mut found = 0;
-    for part in fields_at(parts_of(skip(file, place)), place + 3) {
+    for part in entry.parts() {
         if part.tag() != GUARD {
             continue;
         }

@@ -36,37 +36,39 @@ pub struct Raising<'a> {
     ghost listed: { Assets (drop place facts.now.file.now) assets },
 }
 
-// The number of the token of a raise by `p.amount`: that of the guard, and no call may credit the amount too.
-fn inflow_number(entry: &Raising, amount: &[u8]) -> usize
-    ensures { result ≡ cond (credited (front (drop entry.now.place entry.now.facts.now.file.now)) (front amount.now)) 0 entry.now.guard }
-{
-    if is_credited(entry.facts.file, amount, entry.calls.listed()) {
-        return 0;
+impl<'a> Raising<'a> {
+    // The number of the token of a raise by `p.amount`: that of the guard, and no call may credit the amount too.
+    fn inflow_number(&self, amount: &[u8]) -> usize
+        ensures { result ≡ cond (credited (front (drop self.now.place self.now.facts.now.file.now)) (front amount.now)) 0 self.now.guard }
+    {
+        if is_credited(self.facts.file, amount, self.calls.listed()) {
+            return 0;
+        }
+        self.guard
     }
-    entry.guard
-}
 
-// The number of the token of any other raise: the funding token of the map of the first debit of the amount.
-fn debit_number(entry: &Raising, amount: &[u8]) -> usize
-    ensures { result ≡ debit_number entry.now.facts.now.file.now (front (drop entry.now.place entry.now.facts.now.file.now)) (front amount.now) }
-{
-    let file = entry.facts.file;
-    match first_debit(file, amount, entry.calls.listed()) {
-        Some(debit) => entry
-            .facts
-            .funding_number(receiver(skip(file, usize::from(debit)))),
-        None => 0,
+    // The number of the token of any other raise: the funding token of the map of the first debit of the amount.
+    fn debit_number(&self, amount: &[u8]) -> usize
+        ensures { result ≡ debit_number self.now.facts.now.file.now (front (drop self.now.place self.now.facts.now.file.now)) (front amount.now) }
+    {
+        let file = self.facts.file;
+        match first_debit(file, amount, self.calls.listed()) {
+            Some(debit) => self
+                .facts
+                .funding_number(receiver(skip(file, usize::from(debit)))),
+            None => 0,
+        }
     }
-}
 
-// The number of the token of a raise by the amount. One by `p.amount` is never looked for among the debits.
-pub fn raise_number(entry: &Raising, amount: &[u8]) -> usize
-    ensures { result ≡ raise_number entry.now.facts.now.file.now (placed_at entry.now.facts.now.file.now entry.now.place) (front amount.now) }
-{
-    if is_listed_inflow(skip(entry.facts.file, entry.place), &entry.assets, amount) {
-        return inflow_number(entry, amount);
+    // The number of the token of a raise by the amount. One by `p.amount` is never looked for among the debits.
+    pub fn raise_number(&self, amount: &[u8]) -> usize
+        ensures { result ≡ raise_number self.now.facts.now.file.now (placed_at self.now.facts.now.file.now self.now.place) (front amount.now) }
+    {
+        if is_listed_inflow(skip(self.facts.file, self.place), &self.assets, amount) {
+            return self.inflow_number(amount);
+        }
+        self.debit_number(amount)
     }
-    debit_number(entry, amount)
 }
 
 // Whether the token of a raise bars the field: it is unknown, or another than the one found so far. Most raises have the

@@ -11,7 +11,7 @@ ghost use Rattle.reserve_tokens.specs.Agreeing.{Agreed, Agreeing, AllAgree};
 ghost use Rattle.reserve_tokens.specs.Each.{EachAgreed, EachAgreeing, EachAllAgree, EachNumber};
 
 use super::guard::only_guard_number;
-use super::raise::{Raising, is_barred, raise_number};
+use super::raise::{Raising, is_barred};
 use fields::bytes::skip;
 use fields::front::parts_of;
 use fields::named::Named;
@@ -42,7 +42,7 @@ fn after_raises(entry: &Raising, name: &[u8], before: usize) -> usize
     let statements = fields_at(parts_of(skip(file, entry.place)), 0);
     for raise in statements.filter(|statement| is_raise(name, statement.part)) {
         let amount = raised_by(name, raise.part);
-        let number = raise_number(entry, amount);
+        let number = entry.raise_number(amount);
         if is_barred(file, agreed, number) {
             return 0;
         }
@@ -52,15 +52,15 @@ fn after_raises(entry: &Raising, name: &[u8], before: usize) -> usize
 }
 
 // What is the same for all raises of the entry at a place of the file. A scratch table serves for the places of its calls, and another
-// for its asset parameters.
+// for its asset parameters. The facts and the scratch table are no struct: list_body takes the table alone, for as long as what is
+// listed in it lives, so a struct would be taken apart here and made anew for each entry, and the clause `room` is plainer.
 fn list_raising<'a>(
     facts: &'a Facts<'a>,
     place: usize,
     assets: &'a mut [Named],
     scratch: &'a mut [u16],
 ) -> Raising<'a>
-    requires within { place ≤ length facts.now.file.now }
-    requires room { length facts.now.file.now ≤ 3 * length scratch.old }
+    requires { length facts.now.file.now ≤ 3 * length scratch.old }
     ensures facts { result.facts ≡ facts.entry }
     ensures place { result.place ≡ place }
 {
@@ -82,7 +82,6 @@ fn after_entry(
     assets: &mut [Named],
     scratch: &mut [u16],
 ) -> usize
-    requires within { place ≤ length facts.now.file.now }
     requires before { Agreed facts.now.file.now before }
     requires room { length facts.now.file.now ≤ 3 * length scratch.old }
     ensures { Agreeing facts.now.file.now before (numbers_in facts.now.file.now name.now (placed_at facts.now.file.now place)) result }
@@ -147,6 +146,7 @@ fn after_raises_of_each(entry: &Raising, places: &[u16], numbers: &mut [u16])
     for j in 0..places.len() {
         let name = name_of(skip(file, usize::from(places[j])));
         let before = usize::from(numbers[j]);
+        // What raises agree on is small: try_from would have to answer for what can't be.
         numbers[j] = after_raises(entry, name, before) as u16;
     }
 }
@@ -160,7 +160,6 @@ fn after_entry_of_each(
     assets: &mut [Named],
     scratch: &mut [u16],
 )
-    requires within { place ≤ length facts.now.file.now }
     requires before { EachAgreed facts.now.file.now places.now numbers.old }
     requires room { length facts.now.file.now ≤ 3 * length scratch.old }
     ensures { EachAgreeing facts.now.file.now places.now numbers.old (placed_at facts.now.file.now place) numbers.new }
@@ -179,6 +178,7 @@ fn start_each(facts: &Facts, places: &[u16], numbers: &mut [u16])
 {
     for j in 0..places.len() {
         let name = name_of(skip(facts.file, usize::from(places[j])));
+        // So is the number of a token of the file.
         numbers[j] = started(facts.file, name, usize::from(numbers[j])) as u16;
     }
 }

@@ -16,7 +16,7 @@ use Rattle.conditions.specs.Table.{condition_at}
 use Rattle.conditions.proofs.Callers.{Holds, conditions-stand}
 use Rattle.tokens.specs.Tokens.{beside_in_asset, token_named, tokens_named, admitted_inflow_token}
 use Rattle.tokens.specs.Numbers.{token_at}
-use Rattle.tokens.specs.Numbers.{token_of, joined, joined_all, condition_number, tokens_number, Standing}
+use Rattle.tokens.specs.Numbers.{token_of, joined, joined_all, condition_number, tokens_number}
 use Rattle.tokens.proofs.Joining.{Means, means-token, means-all, means-small, all-several}
 
 -- What the code tests
@@ -95,9 +95,9 @@ number-token file n k e r f =
 pub front-token : (s : List ℕ) (k : ℕ) → k ≡ tokens_number s (placed_at s 0) → (r : List ℕ) → r ≡ token_of s k → r ≡ admitted_inflow_token (front s)
 front-token s k e r f = number-token s 0 k e r f
 
-pub number_small : (file : List ℕ) (n j : ℕ) → Standing file n j → (r : ℕ) → r ≡ tokens_number file (placed_at file n) → r < 65536
-number_small file n j h r e =
-    means-small file h.short r (tokens_named (front (drop n file))) (rw e (entry-means file (placed_at file n) refl))
+pub number_small : (file : List ℕ) (n : ℕ) → length file ≤ 32768 → (r : ℕ) → r ≡ tokens_number file (placed_at file n) → r < 65536
+number_small file n h r e =
+    means-small file h r (tokens_named (front (drop n file))) (rw e (entry-means file (placed_at file n) refl))
 
 -- The conditions of a table, one after the other
 

@@ -7,10 +7,6 @@ use Rattle.conditions.specs.Conditions.{Condition, conditions_from, required_con
 use Rattle.conditions.specs.Table.{condition_at}
 use Rattle.tokens.specs.Tokens.{beside_in_asset, token_named}
 
--- what is not worked out yet: no place, no count and no set has this number
-abbrev pub not_yet : ℕ
-not_yet = 65535
-
 -- the one token of a set; none of an empty one and of one with two that differ
 unfoldable pub token_of : List ℕ → ℕ → List ℕ
 token_of file k = cond (leb 2 k) (beside_in_asset (front (drop (k - 2) file))) []

@@ -24,6 +24,7 @@ pub fn beside_in_asset(s: &[u8]) -> &[u8]
     if tag_of(right) == IN_ASSET {
         return ident(left);
     }
+    // No bytes stand for no identifier, as in the rules' definition: no name is empty.
     &s[..0]
 }
 
@@ -34,6 +35,7 @@ pub fn token_at(entry: &[u8], number: usize) -> &[u8]
 {
     let s = skip(entry, number % 32768);
     if operator_of(tag_of(s), 32768 <= number) != EQ {
+        // No bytes, as in the rules' definition: no token is the empty part.
         return &entry[..0];
     }
     beside_in_asset(s)

@@ -1,12 +1,14 @@
 // SPDX-License-Identifier: Apache-2.0 OR MIT
-// A set of tokens as one number, and the set that an entry names.
+// A set of tokens as one number, and the set that an entry names. It is a number and no enum, since it is the rules' own (Numbers.antt),
+// two sets are mostly compared by it, and two bytes of it are remembered of each of 2,979 state fields.
 ghost use Rattle.std.specs.Prelude.{◌≡◌, ◌*◌, ◌≤◌, ◌<◌, length, take, drop};
 ghost use Rattle.laws.specs.Texts.{same_bytes};
 ghost use Rattle.walking.specs.Table.{placed_at};
 ghost use Rattle.conditions.specs.Table.{condition_at};
-ghost use Rattle.tokens.specs.Numbers.{token_of, joined, condition_number, joined_from, tokens_number, Standing};
+ghost use Rattle.tokens.specs.Numbers.{token_of, joined, condition_number, joined_from, tokens_number};
 ghost use Rattle.tokens.specs.Place.{token_place};
 
+use super::entry::EntryPlace;
 use super::naming::{beside_in_asset, token_at};
 use conditions::list::list_conditions;
 use fields::bytes::{same_bytes, skip};
@@ -14,15 +16,13 @@ use fields::front::parts_of;
 use fields::row::fields_at;
 use tags::{DENIES, GUARD, LIMITS, is_between};
 
-// What is not worked out yet: no place, no count and no set of tokens has this number.
-pub const NOT_YET: usize = 65535;
-
 // The one token of a set; no bytes where it is empty or has two that differ.
 pub fn token_of(file: &[u8], number: usize) -> &[u8]
     ensures reads { result.now ≡ token_of file.now number }
     ensures shows { result.now ≡ take (length result.now) (drop (token_place file.now number) file.now) }
 {
     if number < 2 {
+        // No bytes, as in the rules' definition: no token is the empty part.
         return &file[..0];
     }
     beside_in_asset(skip(file, number - 2))
@@ -66,32 +66,22 @@ pub fn condition_number(entry: &[u8], place: usize, mark: usize) -> usize
 }
 
 // The set found before, with what the conditions of an entry name, of those clauses or guards whose tags are from low to high.
-// Condition by condition, and in each part by part, the search ends where two tokens differ.
-fn joined_from(
-    file: &[u8],
-    place: usize,
-    low: u8,
-    high: u8,
-    before: usize,
-    table: &mut [u16],
-) -> usize
-    requires standing { Standing file.now place 0 }
-    requires room { length file.now ≤ 3 * length table.old }
-    ensures { result ≡ joined_from file.now low high (placed_at file.now place) before }
+// Condition by condition, and in each part by part, the search ends where two tokens differ. The table is no field of the entry's
+// place: it is lent on to list_conditions, which takes any, so a struct of both would only be taken apart, and the clause is plainer.
+fn joined_from(entry: &EntryPlace, low: u8, high: u8, before: usize, table: &mut [u16]) -> usize
+    requires { length entry.now.file.now ≤ 3 * length table.old }
+    ensures { result ≡ joined_from entry.now.file.now low high (placed_at entry.now.file.now entry.now.place) before }
 {
-    let entry = skip(file, place);
+    let this = entry.part();
     let mut found = before;
-    'search: for part in fields_at(parts_of(entry), 3) {
+    'search: for part in fields_at(parts_of(this), 3) {
         if !is_between(low, high, part.tag()) {
             continue;
         }
         let conditions = list_conditions(part, table);
         for &mark in conditions.listed() {
-            found = join(
-                file,
-                found,
-                condition_number(entry, place, usize::from(mark)),
-            );
+            let named = condition_number(this, entry.place, usize::from(mark));
+            found = join(entry.file, found, named);
             if found == 1 {
                 break 'search;
             }
@@ -100,17 +90,16 @@ fn joined_from(
     found
 }
 
-// The set of tokens that the entry at a place names: what its clauses name, and then its guards. The lent table has a number for
-// each three bytes of the file, and serves for the parts of a condition.
-pub fn tokens_number(file: &[u8], place: usize, table: &mut [u16]) -> usize
-    requires standing { Standing file.now place 0 }
-    requires room { length file.now ≤ 3 * length table.old }
-    ensures reads { result ≡ tokens_number file.now (placed_at file.now place) }
+// The set of tokens that an entry names: what its clauses name, and then its guards. The lent table has a number for each three bytes
+// of the file, and serves for the parts of a condition.
+pub fn tokens_number(entry: &EntryPlace, table: &mut [u16]) -> usize
+    requires { length entry.now.file.now ≤ 3 * length table.old }
+    ensures reads { result ≡ tokens_number entry.now.file.now (placed_at entry.now.file.now entry.now.place) }
     ensures small { result < 65536 }
 {
-    let named = joined_from(file, place, LIMITS, DENIES, 0, table);
+    let named = joined_from(entry, LIMITS, DENIES, 0, table);
     if named == 1 {
         return 1;
     }
-    joined_from(file, place, GUARD, GUARD, named, table)
+    joined_from(entry, GUARD, GUARD, named, table)
 }

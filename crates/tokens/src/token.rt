@@ -7,6 +7,7 @@ ghost use Rattle.tokens.specs.Tokens.{admitted_inflow_token};
 ghost use Rattle.tokens.specs.Numbers.{tokens_number};
 ghost use Rattle.tokens.specs.Place.{token_place};
 
+use super::entry::entry_at;
 use super::number::{token_of, tokens_number};
 use walking::walk::MOST_FIELDS;
 
@@ -17,5 +18,5 @@ pub fn admitted_inflow_token(s: &[u8]) -> &[u8]
     ensures shows { result.now ≡ take (length result.now) (drop (token_place s.now (tokens_number s.now (placed_at s.now 0))) s.now) }
 {
     let mut table = [0u16; MOST_FIELDS];
-    token_of(s, tokens_number(s, 0, &mut table))
+    token_of(s, tokens_number(&entry_at(s, 0), &mut table))
 }

@@ -7,7 +7,7 @@ loop-call-init c = search joining-none
 
 pub loop-call-preserved : goal.loop-call-preserved
 loop-call-preserved c =
-    joining-on c.args.file.now _ c.args.entry.named c.args.calls.now c.args.maps.now.items _ c.loop-call.maps.items c.loop-call.invariant
+    joining-on c.args.funder.now.entry.file.now _ c.args.named c.args.calls.now c.args.maps.now.items _ c.loop-call.maps.items c.loop-call.invariant
     c.loop-call-test.true _ c.from.ensures c.list_call.new.maps.items c.in_ok-list_call.ensures
 
 pub returns : goal.returns

@@ -1,5 +1,5 @@
 -- Field by field, the set found so far and what the entries ahead name have the set of all; two that differ stay so.
-use Rattle.fundings.proofs.Funders.{ledger-all, ledger-past, ledger-standing, ledger-several, ledger-on, ledger-done}
+use Rattle.fundings.proofs.Funders.{ledger-all, ledger-past, ledger-inside, ledger-several, ledger-on, ledger-done}
 use Rattle.fundings.proofs.Shown.{funding-small}
 use Rattle.fundings.proofs.token.ledger_funding_number.Goals as goal
 
@@ -11,16 +11,18 @@ pub loop-field-preserved-then-tag-ne-ENTRY : goal.loop-field-preserved-then-tag-
 loop-field-preserved-then-tag-ne-ENTRY c =
     ledger-past _ _ _ _ c.loop-field.invariant _ _ c.in-Some.ensures.steps _ c.tag.ensures c.if-tag-ne-ENTRY.true
 
-pub joined_with-found-requires-clause-standing : goal.joined_with-found-requires-clause-standing
-joined_with-found-requires-clause-standing c = ledger-standing _ _ _ _ c.loop-field.invariant _ _ c.in-Some.ensures.steps c.requires
+pub entry_at-requires-clause-within : goal.entry_at-requires-clause-within
+entry_at-requires-clause-within c = ledger-inside _ _ _ _ c.loop-field.invariant _ _ c.in-Some.ensures.steps
 
 pub returns-then-found-eq1-clause-reads : goal.returns-then-found-eq1-clause-reads
 returns-then-found-eq1-clause-reads c =
-    ledger-several _ _ _ _ c.loop-field.invariant _ _ c.in-Some.ensures.steps _ c.tag.ensures c.if-tag-ne-ENTRY.false _ c.joined_with-found.ensures c.if-found-eq1.true
+    ledger-several _ _ _ _ c.loop-field.invariant _ _ c.in-Some.ensures.steps _ c.tag.ensures c.if-tag-ne-ENTRY.false _
+    (rw (c.entry_at.ensures.file, c.entry_at.ensures.place) at c.joined_with-found.ensures) c.if-found-eq1.true
 
 pub loop-field-preserved : goal.loop-field-preserved
 loop-field-preserved c =
-    ledger-on _ _ _ _ c.loop-field.invariant _ _ c.in-Some.ensures.steps _ c.tag.ensures c.if-tag-ne-ENTRY.false _ c.joined_with-found.ensures
+    ledger-on _ _ _ _ c.loop-field.invariant _ _ c.in-Some.ensures.steps _ c.tag.ensures c.if-tag-ne-ENTRY.false _
+    (rw (c.entry_at.ensures.file, c.entry_at.ensures.place) at c.joined_with-found.ensures)
 
 pub returns-clause-reads : goal.returns-clause-reads
 returns-clause-reads c = ledger-done _ _ _ _ c.loop-field.invariant c.in-None.ensures.steps

@@ -1,5 +1,5 @@
 -- Field by field, the number agreed on so far and those of the entries ahead agree on that of all; one that bars the field leaves none.
-use Rattle.fields.proofs.EndOf.{end-all, end-inside, end-behind}
+use Rattle.fields.proofs.EndOf.{end-all, end-behind}
 use Rattle.reserve_tokens.proofs.Reserving.{ahead-all, ahead-past, ahead-on, entry-barred, ahead-end}
 use Rattle.reserve_tokens.proofs.reserve.raises_number.Goals as goal
 
@@ -14,9 +14,6 @@ loop-field-preserved-then-tag-ne-ENTRY c = (
   end-behind _ _ c.loop-field.invariant.0 _ _ c.in-Some.ensures.steps,
   ahead-past _ _ _ _ c.loop-field.invariant.1 c.loop-field.invariant.0 _ _ c.in-Some.ensures.steps _ c.tag.ensures c.if-tag-ne-ENTRY.true,
 )
-
-pub after_entry-agreed-requires-clause-within : goal.after_entry-agreed-requires-clause-within
-after_entry-agreed-requires-clause-within c = end-inside _ _ c.loop-field.invariant.0 _ _ c.in-Some.ensures.steps
 
 pub returns-then-agreed-eq0 : goal.returns-then-agreed-eq0
 returns-then-agreed-eq0 c =

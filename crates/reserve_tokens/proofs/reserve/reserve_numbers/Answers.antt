@@ -1,5 +1,5 @@
 -- Field by field, of each state field the number agreed on so far and those of the entries ahead agree on that of all.
-use Rattle.fields.proofs.EndOf.{end-all, end-inside, end-behind}
+use Rattle.fields.proofs.EndOf.{end-all, end-behind}
 use Rattle.reserve_tokens.proofs.Replacing.{each-ahead_all, each-found, each-ahead_past, each-ahead_on, each-ahead_end}
 use Rattle.reserve_tokens.proofs.reserve.reserve_numbers.Goals as goal
 
@@ -15,9 +15,6 @@ loop-field-preserved-then-tag-ne-ENTRY c = (
   end-behind _ _ c.loop-field.invariant.0 _ _ c.in-Some.ensures.steps,
   each-ahead_past _ _ _ _ c.loop-field.invariant.1 c.loop-field.invariant.0 _ _ c.in-Some.ensures.steps _ c.tag.ensures c.if-tag-ne-ENTRY.true,
 )
-
-pub after_entry_of_each-requires-clause-within : goal.after_entry_of_each-requires-clause-within
-after_entry_of_each-requires-clause-within c = end-inside _ _ c.loop-field.invariant.0 _ _ c.in-Some.ensures.steps
 
 pub after_entry_of_each-requires-clause-before : goal.after_entry_of_each-requires-clause-before
 after_entry_of_each-requires-clause-before c = each-found _ _ _ _ c.loop-field.invariant.1

@@ -9,8 +9,8 @@ use Rattle.tokens.proofs.number.joined_from.Given as goal
 
 abbrev pub invariant-search : goal.invariant-search
 invariant-search l =
-    Searching l.file l.place l.low l.high l.part-iterator l.found (joined_from l.file l.low l.high (placed_at l.file l.place) l.before)
+    Searching l.entry.file.now l.entry.place l.low l.high l.part-iterator l.found (joined_from l.entry.file.now l.low l.high (placed_at l.entry.file.now l.entry.place) l.before)
 
 abbrev pub invariant-loop-mark : goal.invariant-loop-mark
 invariant-loop-mark l =
-    Joining (mark_number l.entry l.place) l.file l.mark-items (joined_all l.file l.initial.found (map (mark_number l.entry l.place) l.mark-items)) l.mark-index l.found
+    Joining (mark_number l.this l.entry.place) l.entry.file.now l.mark-items (joined_all l.entry.file.now l.initial.found (map (mark_number l.this l.entry.place) l.mark-items)) l.mark-index l.found

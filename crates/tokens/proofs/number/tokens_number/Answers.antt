@@ -10,4 +10,4 @@ pub returns-clause-reads : goal.returns-clause-reads
 returns-clause-reads c = search guards-joined
 
 pub returns-clause-small : goal.returns-clause-small
-returns-clause-small c = search (number_small, guards-joined)
+returns-clause-small c = number_small _ c.args.entry.now.place c.args.entry.now.short _ (search guards-joined)
