@@ -119,7 +119,8 @@ impl Pass {
         Ok(Cover::Reserve { index })
     }
 
-    // The first covering reserve, rejecting if there is none or it is used.
+    // The first covering reserve, rejecting if there is none or it is used. What a payout needs is said of the file, the payout and the
+    // pass together, of which each changes by itself, so that it is a clause and no ghost field.
     fn by_reserve(&self, payout: &Payout, reading: &mut Reading) -> Answer
         requires { Ready (file_of reading.old) payout.now self.now }
         ensures same_file { file_of reading.new ≡ file_of reading.old }
