@@ -16,6 +16,7 @@ use matching::payout::Payout;
 use model::nth_entry;
 use questions::question::{Answer, Question, Refusal};
 use reserves::reading::Reading;
+use tokens::entry::{EntryPlace, entry_at};
 use walking::walk::MOST_FIELDS;
 
 // Most files are no longer than this, and need a table of a fifth of the size, which is sooner cleared.
@@ -156,31 +157,27 @@ pub fn placed_verdict(reading: &mut Reading, place: usize, covers: &mut [u8]) ->
 }
 
 // The same with tables of its own.
-fn verdict_with<const FIELDS: usize>(file: &[u8], place: usize, covers: &mut [u8]) -> Verdict
-    requires short { length file.now ≤ 32768 }
-    requires inside { place ≤ length file.now }
-    requires room { length file.now ≤ 3 * FIELDS }
+fn verdict_with<const FIELDS: usize>(entry: &EntryPlace, covers: &mut [u8]) -> Verdict
+    requires room { length entry.now.file.now ≤ 3 * FIELDS }
     requires small { FIELDS ≤ 32768 }
-    ensures answer { numbers_of result ≡ placed_answer file.now place (length covers.old) }
-    ensures covers { covers.new ≡ placed_covers file.now place covers.old }
+    ensures answer { numbers_of result ≡ placed_answer entry.now.file.now entry.now.place (length covers.old) }
+    ensures covers { covers.new ≡ placed_covers entry.now.file.now entry.now.place covers.old }
 {
-    let mut facts = nothing_known(file);
+    let mut facts = nothing_known(entry.file);
     let mut scratch = [0u16; FIELDS];
     let mut reading = Reading::new(&mut facts, &mut scratch);
-    placed_verdict(&mut reading, place, covers)
+    placed_verdict(&mut reading, entry.place, covers)
 }
 
 // Most files are short, and a short table is soon cleared.
-fn verdict_at(file: &[u8], place: usize, covers: &mut [u8]) -> Verdict
-    requires short { length file.now ≤ 32768 }
-    requires inside { place ≤ length file.now }
-    ensures answer { numbers_of result ≡ placed_answer file.now place (length covers.old) }
-    ensures covers { covers.new ≡ placed_covers file.now place covers.old }
+fn verdict_at(entry: &EntryPlace, covers: &mut [u8]) -> Verdict
+    ensures answer { numbers_of result ≡ placed_answer entry.now.file.now entry.now.place (length covers.old) }
+    ensures covers { covers.new ≡ placed_covers entry.now.file.now entry.now.place covers.old }
 {
-    if file.len() <= SHORT_FILE {
-        return verdict_with::<SHORT_FIELDS>(file, place, covers);
+    if entry.file.len() <= SHORT_FILE {
+        return verdict_with::<SHORT_FIELDS>(entry, covers);
     }
-    verdict_with::<MOST_FIELDS>(file, place, covers)
+    verdict_with::<MOST_FIELDS>(entry, covers)
 }
 
 // Where the n-th entry stands in the file, counted from 0, if there is one.
@@ -206,5 +203,5 @@ pub fn entry_verdict(file: &[u8], n: usize, covers: &mut [u8]) -> Verdict
     ensures covers { covers.new ≡ entry_covers file.now n covers.old }
 {
     let place = place_or_refusal(file, n)?;
-    verdict_at(file, place, covers)
+    verdict_at(&entry_at(file, place), covers)
 }

@@ -16,9 +16,11 @@ returns-in_err-place-clause-covers c =
 pub returns-clause-answer : goal.returns-clause-answer
 returns-clause-answer c =
     let found : c.place_or_refusal.result ≡ Ok c.in_ok-place.place = grind arith in
+    let told = rw (c.entry_at.ensures.file, c.entry_at.ensures.place) at c.verdict_at.ensures.answer in
     search told-placed
 
 pub returns-clause-covers : goal.returns-clause-covers
 returns-clause-covers c =
     let found : c.place_or_refusal.result ≡ Ok c.in_ok-place.place = grind arith in
+    let left = rw (c.entry_at.ensures.file, c.entry_at.ensures.place) at c.verdict_at.ensures.covers in
     search left-placed
