@@ -48,6 +48,15 @@ abbrev pub asked_by : Test → (amount backing : Field) → Bool
 asked_by Equals = equal_to
 asked_by Bounds = bounded_by
 
+-- in two parts: the amount that it asks about, and whether a backing passes
+abbrev pub asked_amount : Test → Field → Field
+asked_amount Equals amount = peel amount
+asked_amount Bounds amount = amount
+
+abbrev pub passes : Test → (amount backing : Field) → Bool
+passes Equals amount backing = expr_eq backing amount
+passes Bounds amount backing = bounded_by_backing amount backing false
+
 -- whether backing number i of an entry is free, or taken, and its amount passes a test
 unfoldable pub free_in : List ℕ → Entry → List Bool → (Field → Bool) → ℕ → Bool
 free_in file e free test i = mark_at free i && test (amount_in file e i)

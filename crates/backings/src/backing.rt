@@ -37,14 +37,11 @@ fn debit_amount(s: &[u8]) -> &[u8]
     peel(part_of(s, 2))
 }
 
-// The part of the file that starts with backing number i of an entry: with the call of a debit, or with a parameter.
-fn backing_part<'a>(file: &'a [u8], entry: &Entry, i: usize) -> &'a [u8]
-    ensures { result.now ≡ drop (get_or entry.now.backed i 0) file.now }
+// The part of the file that starts at the i-th place of a table, as of an entry's backings or payouts.
+pub fn part_at<'a>(file: &'a [u8], places: &[u16], i: usize) -> &'a [u8]
+    ensures { result.now ≡ drop (get_or places.now i 0) file.now }
 {
-    skip(
-        file,
-        usize::from(entry.backed.get(i).copied().unwrap_or(0)),
-    )
+    skip(file, usize::from(places.get(i).copied().unwrap_or(0)))
 }
 
 // The amount of backing number i of an entry, the debits first: that of a debit, or of a parameter.
@@ -52,7 +49,7 @@ fn backing_part<'a>(file: &'a [u8], entry: &Entry, i: usize) -> &'a [u8]
 pub fn backing_amount<'a>(file: &'a [u8], entry: &Entry, i: usize) -> Amount<'a>
     ensures { backing_field result ≡ amount_in file.now entry.now i }
 {
-    let part = backing_part(file, entry, i);
+    let part = part_at(file, &entry.backed, i);
     if i < entry.debits {
         return Amount::Expression(debit_amount(part));
     }
@@ -76,7 +73,7 @@ fn debit_token<'a>(facts: &Facts<'a>, entry: &Entry, i: usize) -> &'a [u8]
     ensures reads { result.now ≡ funding_token (fields facts.now.file.now) (receiver (debit_at facts.now.file.now entry.now.backed i)) }
     ensures shows { result.now ≡ take (length result.now) (drop (token_place facts.now.file.now (funding_number facts.now.file.now (receiver (debit_at facts.now.file.now entry.now.backed i)))) facts.now.file.now) }
 {
-    let debit = backing_part(facts.file, entry, i);
+    let debit = part_at(facts.file, &entry.backed, i);
     facts.funded_token(receiver(debit))
 }
 

@@ -5,7 +5,7 @@ ghost use Rattle.laws.specs.Lists.{any};
 ghost use Rattle.fields.specs.Field.{front};
 ghost use Rattle.guards.specs.Payouts.{payout_amount};
 ghost use Rattle.bounds.specs.Backing.{backing_field};
-ghost use Rattle.backings.specs.Tables.{equal_to, asked_by, first_free, any_taken};
+ghost use Rattle.backings.specs.Tables.{asked_amount, passes, asked_by, equal_to, first_free, any_taken};
 ghost use Rattle.backings.specs.Marked.{all_free, mark_at, without, with_used};
 
 use super::backing::backing_amount;
@@ -23,13 +23,22 @@ pub enum Test {
 }
 
 impl Test {
-    // Whether a backing with this amount passes. An amount is peeled before it is compared, and to bound it the wrappers count.
-    #[tactic(auto, unfolding(crate::specs::Tables::equal_to, crate::specs::Tables::bounded_by))]
-    fn passes(self, backing: Amount, amount: &[u8]) -> bool
-        ensures { result ≡ asked_by self (front amount.now) (backing_field backing.entry) }
+    // The amount that is asked about: peeled to be equal, once for all backings, and with its wrappers to be bounded.
+    fn asked_amount(self, amount: &[u8]) -> &[u8]
+        ensures { front result.now ≡ asked_amount self (front amount.now) }
     {
         match self {
-            Test::Equals => backing_eq(backing, peel(amount)),
+            Test::Equals => peel(amount),
+            Test::Bounds => amount,
+        }
+    }
+
+    // Whether a backing with an amount passes.
+    fn passes(self, backing: Amount, amount: &[u8]) -> bool
+        ensures { result ≡ passes self (front amount.now) (backing_field backing.entry) }
+    {
+        match self {
+            Test::Equals => backing_eq(backing, amount),
             Test::Bounds => bounded_by(amount, backing, false),
         }
     }
@@ -101,17 +110,17 @@ impl Marks {
     pub fn first_free(&self, file: &[u8], entry: &Entry, test: Test, s: &[u8]) -> Option<usize>
         ensures { result ≡ first_free file.now entry.now self.now (asked_by test (payout_amount (front s.now))) }
     {
-        let amount = payout_amount(s);
+        let amount = test.asked_amount(payout_amount(s));
         (0..entry.total).find(|&i| self.is_free(i)
             && test.passes(backing_amount(file, entry, i), amount))
     }
 
-    // Whether a taken backing equals it.
+    // Whether a taken backing equals it. A function for both would take whether it asks the free ones, and find a number in vain here.
     pub fn is_taken(&self, file: &[u8], entry: &Entry, s: &[u8]) -> bool
         ensures { result ≡ any_taken file.now entry.now self.now (equal_to (payout_amount (front s.now))) }
     {
-        let amount = payout_amount(s);
+        let amount = peel(payout_amount(s));
         (0..entry.total).any(|i| !self.is_free(i)
-            && Test::Equals.passes(backing_amount(file, entry, i), amount))
+            && backing_eq(backing_amount(file, entry, i), amount))
     }
 }

@@ -2,8 +2,8 @@
 // A payout of an entry.
 ghost use Rattle.std.specs.Prelude.{◌<◌};
 
+use backings::backing::part_at;
 use entries::entry::Entry;
-use fields::bytes::skip;
 
 // The k-th one.
 #[derive(Clone, Copy)]
@@ -20,9 +20,6 @@ impl<'a> Payout<'a> {
     pub fn part<'f>(&self, file: &'f [u8]) -> &'f [u8]
         ensures { result.now ≡ drop (get_or self.now.entry.now.paid self.now.k 0) file.now }
     {
-        skip(
-            file,
-            usize::from(self.entry.paid.get(self.k).copied().unwrap_or(0)),
-        )
+        part_at(file, &self.entry.paid, self.k)
     }
 }

@@ -2,6 +2,7 @@
 use Rattle.std.proofs.Common.{ℕ, ◌*◌, ◌≤◌, ◌<◌, ◌≡◌, refl, sym, ap, ◌∙◌, Bool, true, false, List, [], arith, leb-true, leb-false, leb, length, get_or, drop_of_length-le, drop-cons, Ok, Err}
 use Rattle.std.proofs.Common.{Some, Result}
 use Rattle.std.specs.Option.{ok_or}
+use Rattle.std.specs.Result.{IsErrAnd}
 use lib.ListN.{length-map}
 use Rattle.laws.proofs.Lists.{no-elements}
 use Rattle.fields.specs.Field.{Field, Placed, fields}
@@ -21,6 +22,7 @@ use Rattle.claim.specs.Verdict.{first_of, second_of}
 use Rattle.verdict.specs.Coded.{Told, numbers_of, numbers, ask_counted, ask_placed, placed_verdict, placed_answer, placed_covers, entry_answer, entry_covers}
 use Rattle.verdict.specs.Place.{place_of_entry, no_entry}
 use Rattle.verdict.specs.declared.entry.Objection.TheVariants.{Refused}
+use Rattle.verdict.specs.declared.numbers.Numbers.{Numbers}
 use Rattle.verdict.proofs.Asking.{ninth, not-ninth, entry-missing, entry-counted, entry-there, place-missing, place-found}
 
 -- a refusal writes nothing
@@ -32,6 +34,11 @@ module _ (v : Verdict) (d : Refusal) (e : v ≡ refused (number_of d.question) d
   pub left-refused : (t : List ℕ) → t ≡ written v t
   unfolding written
   left-refused t = rw e
+
+-- and where it is handed on by `?`, it is the verdict
+pub handed-on : (d : Refusal) (x : Numbers) (v : Told) → IsErrAnd v (λ o. o ≡ Refused d) → numbers_of (Err (Refused d)) ≡ x → numbers_of v ≡ x
+handed-on d x (Ok a) h e = absurd h
+handed-on d x (Err o) h e = rw h e
 
 -- Questions 10 to 12, of an entry as it is read
 

@@ -1,14 +1,12 @@
 -- The first no, or the matching.
 use Rattle.std.proofs.Common.{arith, ◌≡◌, Ok, Err}
-use Rattle.std.proofs.lemmas.Result.{err_from_is_err_and}
-use Rattle.verdict.proofs.Placing.{told-no, left-no, entered-passed, room-passed, told-unpaid, left-unpaid, told-matched, left-matched}
+use Rattle.verdict.proofs.Placing.{handed-on, told-no, left-no, entered-passed, room-passed, told-unpaid, left-unpaid, told-matched, left-matched}
 use Rattle.verdict.proofs.entry.asked_verdict.Goals as goal
 
 pub returns-in_err-ask_entry-clause-answer : goal.returns-in_err-ask_entry-clause-answer
 returns-in_err-ask_entry-clause-answer c =
-    let p = err_from_is_err_and c.from_residual.result c.from_residual.ensures.1 in
     let was : c.ask_entry.result ≡ Err c.in_err-ask_entry.field-0.0 = grind arith in
-    rw (p.1, p.2) (search told-no)
+    handed-on _ _ _ c.from_residual.ensures.1 (search told-no)
 
 pub returns-in_err-ask_entry-clause-covers : goal.returns-in_err-ask_entry-clause-covers
 returns-in_err-ask_entry-clause-covers c =

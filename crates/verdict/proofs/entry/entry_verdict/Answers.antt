@@ -1,14 +1,12 @@
 -- The ninth question, or the verdict on the entry at its place.
 use Rattle.std.proofs.Common.{arith, ◌≡◌, Ok, Err}
-use Rattle.std.proofs.lemmas.Result.{err_from_is_err_and}
-use Rattle.verdict.proofs.Placing.{told-ninth, left-ninth, told-placed, left-placed}
+use Rattle.verdict.proofs.Placing.{handed-on, told-ninth, left-ninth, told-placed, left-placed}
 use Rattle.verdict.proofs.entry.entry_verdict.Goals as goal
 
 pub returns-in_err-place-clause-answer : goal.returns-in_err-place-clause-answer
 returns-in_err-place-clause-answer c =
-    let p = err_from_is_err_and c.from_residual.result c.from_residual.ensures.1 in
     let was : c.place_or_refusal.result ≡ Err c.in_err-place.field-0.0 = grind arith in
-    rw (p.1, p.2) (search told-ninth)
+    handed-on _ _ _ c.from_residual.ensures.1 (search told-ninth)
 
 pub returns-in_err-place-clause-covers : goal.returns-in_err-place-clause-covers
 returns-in_err-place-clause-covers c =

@@ -1,6 +1,5 @@
 -- A file that a question refuses has that verdict, and one that passes is short enough for its entries to be asked about.
 use Rattle.std.proofs.Common.{ℕ, ◌≡◌, List, length, arith, Ok, Err}
-use Rattle.std.proofs.lemmas.Result.{err_from_is_err_and}
 use Rattle.fields.specs.Field.{fields}
 use Rattle.questions.specs.Questions.{ask_file}
 use Rattle.questions.specs.Answers.{Answered, number_of, asked}
@@ -9,7 +8,7 @@ use Rattle.claim.specs.Verdict.{refused, entry_at, entry_verdict, verdict, writt
 use Rattle.claim.proofs.Fitting.{answered-passes, answered-short}
 use Rattle.verdict.specs.Coded.{Told, numbers_of, numbers}
 use Rattle.verdict.specs.declared.entry.Objection.TheVariants.{Refused}
-use Rattle.verdict.proofs.Placing.{told-refused, left-refused}
+use Rattle.verdict.proofs.Placing.{handed-on, told-refused, left-refused}
 use Rattle.verdict.proofs.file.file_verdict.Goals as goal
 
 module _ (file : List ℕ) (a : Answered) (e : asked a ≡ ask_file file) where
@@ -38,9 +37,8 @@ module _ (file : List ℕ) (a : Answered) (e : asked a ≡ ask_file file) where
 
 pub returns-in_err-check_file-clause-answer : goal.returns-in_err-check_file-clause-answer
 returns-in_err-check_file-clause-answer c =
-    let p = err_from_is_err_and c.from_residual.result c.from_residual.ensures.1 in
     let was : c.check_file.result ≡ Err c.in_err-check_file.field-0.0 = grind arith in
-    rw (p.1, p.2) (search told-no)
+    handed-on _ _ _ c.from_residual.ensures.1 (search told-no)
 
 pub returns-in_err-check_file-clause-covers : goal.returns-in_err-check_file-clause-covers
 returns-in_err-check_file-clause-covers c =

@@ -8,7 +8,7 @@ use Rattle.backings.specs.Tables.{equal_to, taken_in}
 use Rattle.backings.proofs.marks.Marks.is_taken.Goals as goal
 
 pub returns : goal.returns
-unfolding taken_in
+unfolding taken_in equal_to
 returns c =
     any_from_yields_List
     (taken_in c.args.file.now c.args.entry.now c.args.self.now.free (equal_to (payout_amount (front c.args.s.now)))) c.any.new.self _

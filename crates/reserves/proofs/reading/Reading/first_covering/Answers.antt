@@ -12,11 +12,14 @@ pub returns-in-Some-first_holding-clause-found : goal.returns-in-Some-first_hold
 returns-in-Some-first_holding-clause-found c = some-covers _ _ _ _ _ _ c.list_ahead-left.ensures _ _ (search rules) ∙ (rw (c.in-Some.is) at c.loop-ahead.invariant.1.left)
 
 pub loop-ahead-preserved : goal.loop-ahead-preserved
-loop-ahead-preserved c = (search rules, record {
-  some = c.doubled-most.ensures.some;
-  few = c.doubled-most.ensures.few;
-  left = none-covers _ _ _ _ _ _ c.list_ahead-left.ensures _ (search rules) ∙ (rw (c.in-Some.is) at c.loop-ahead.invariant.1.left);
-})
+loop-ahead-preserved c = (
+  search rules,
+  record {
+    some = c.doubled-most.ensures.some;
+    few = c.doubled-most.ensures.few;
+    left = none-covers _ _ _ _ _ _ c.list_ahead-left.ensures _ (search rules) ∙ (rw (c.in-Some.is) at c.loop-ahead.invariant.1.left);
+  },
+)
 
 pub returns-clause-found : goal.returns-clause-found
 returns-clause-found c = search none-left
