@@ -81,7 +81,7 @@ impl Marks {
         }
     }
 
-    // The same of the asset parameter with an index, which stands behind the debits.
+    // The same of the asset parameter with an index, which stands behind the debits, of which there are so many.
     #[tactic(auto, unfolding(crate::specs::Marked::without))]
     pub fn take_parameter(&mut self, count: usize, index: usize)
         ensures { self.new ≡ without self.old (count + index) }

@@ -1,4 +1,4 @@
-// The records of a file, one behind the other.
+// The records of a file, one behind the other. The file and the bytes lent for its records come from C side by side.
 ghost use Rattle.std.specs.Prelude.{◌≡◌, ◌*◌, ◌<◌, ◌≤◌, length};
 ghost use Rattle.questions.specs.Questions.{passes, ask_file};
 ghost use Rattle.questions.specs.Answers.{number_of};

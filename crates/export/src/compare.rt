@@ -36,7 +36,7 @@ pub extern "C" fn zevdrak_expr_eq(a: &[u8], b: &[u8]) -> bool
     expr_eq(a, b)
 }
 
-// Whether the backing at the front of one part bounds the amount at the front of another.
+// Whether the backing at the front of one part bounds the amount at the front of another, with wrapping on or off as C says.
 #[unsafe(no_mangle)]
 pub extern "C" fn zevdrak_bounded_by_backing(amount: &[u8], backing: &[u8], wrapping: bool) -> bool
     ensures { result ≡ bounded_by_backing (front amount.now) (front backing.now) wrapping }

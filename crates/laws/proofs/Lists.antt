@@ -1,5 +1,5 @@
 -- Laws of lists that are joined, mapped, filtered and tested, by induction on the list and by cases on a test.
-use Rattle.std.proofs.Common.{ℕ, zero, suc, ◌≤◌, ◌<◌, ◌≡◌, refl, sym, ◌∙◌, Bool, true, false, cond, ◌&&◌, ◌||◌, List, [], ◌∷◌, ◌++◌, map, append-nil, append_assoc, arith, length, get_or, take}
+use Rattle.std.proofs.Common.{ℕ, zero, suc, ◌≤◌, ◌<◌, ◌≡◌, refl, sym, ◌∙◌, Bool, true, false, cond, ◌&&◌, ◌||◌, List, [], ◌∷◌, ◌++◌, map, append_assoc, arith, length, get_or, take}
 use mathlib.Core.List.{flat_map}
 use Rattle.laws.specs.Lists.{any, all, filter}
 use Rattle.laws.proofs.Truths.{or_left, or_right, either, chosen}
@@ -52,10 +52,6 @@ module _ {A : Type 0} where
     unfolding flat_map
     flat_map-append f [] m = refl
     flat_map-append f (x ∷ l) m = rw (flat_map-append f l m) (sym (append_assoc (f x) (flat_map f l) (flat_map f m)))
-
-    pub flat_map-then : (f : A → List B) (l : List A) (x : A) → flat_map f (l ++ x ∷ []) ≡ flat_map f l ++ f x
-    unfolding flat_map
-    flat_map-then f l x = flat_map-append f l (x ∷ []) ∙ rw (append-nil (f x))
 
 -- Filtered lists
 

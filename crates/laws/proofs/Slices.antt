@@ -1,6 +1,6 @@
 -- Laws of a part of a list, also where it is read past its end: in the form in which the readers ask them, and cut twice.
 use Rattle.std.proofs.Common.{◌≡◌, refl, sym, ap, ◌∙◌, Bool, true, false, List, [], ◌∷◌, ◌++◌, ℕ, zero, suc, ◌+◌, ◌-◌, ◌≤◌, ◌<◌, arith, le_of_lt, add-one, leb-true, leb-false, leb, length}
-use Rattle.std.proofs.Common.{get_or, take, drop, length-drop, drop_of_length-le, take_all, length-take-le, drop-cons, drop-drop, get_or-take, get_or-append-add}
+use Rattle.std.proofs.Common.{get_or, take, drop, length-drop, drop_of_length-le, take_all, length-take-le, drop-cons, get_or-take, get_or-append-add}
 use native.Mathlib.Nat.{sub-zero, zero-sub, suc-sub-suc}
 use lib.ListN.{get_or-eq_default}
 use lib.Seq.{take-nil, drop-length}
@@ -26,24 +26,11 @@ pub ruleset slices = (get_d_past, take_past, take_count, drop_past, drop-rest)
 pub drop-step : (l : List ℕ) (i : ℕ) → i < length l → drop i l ≡ get_or l i 0 ∷ drop (i + 1) l
 drop-step l i h = rw add-one (drop-cons l i 0 h)
 
--- the next two
-pub next-two : (l : List ℕ) (i : ℕ) → 1 < length l - i → drop i l ≡ get_or l i 0 ∷ get_or l (i + 1) 0 ∷ drop (i + 2) l
-next-two l i h =
-    let e : i + 1 + 1 ≡ i + 2 = omega arith in
-    drop-step l i (omega arith) ∙ rw (drop-step l (i + 1) (omega arith), e)
-
 -- the next number of the first n
 pub step-within : (l : List ℕ) (n i : ℕ) → n ≤ length l → i < n → drop i (take n l) ≡ get_or l i 0 ∷ drop (i + 1) (take n l)
 step-within l n i w h =
     let k : i < length (take n l) = omega (arith, length-take-le n l w) in
     drop-step (take n l) i k ∙ rw (get_or-take n l i 0 h)
-
--- a part is no longer than the whole
-pub drop-shorter : {A : Type 0} (l x : List A) (n : ℕ) → x ≡ drop n l → length x ≤ length l
-drop-shorter l x n e = rw (e, length-drop) (omega arith)
-
-pub drop-one : {A : Type 0} (n : ℕ) (l : List A) → drop (suc n) l ≡ drop 1 (drop n l)
-drop-one n l = rw (drop-drop 1 n l, add-one)
 
 pub drop-take : {A : Type 0} (m n : ℕ) (l : List A) → drop m (take n l) ≡ take (n - m) (drop m l)
 drop-take zero n l = rw (sub-zero n)
@@ -72,6 +59,3 @@ tail_of s t j e = go (leb j (length s)) refl
         let l : length t ≡ 0 = rw n in
         let z : length s - length t ≡ length s = omega arith in
         n ∙ sym (ap (λ k. drop k s) z ∙ drop-length s)
-
-pub tail-behind : (s t x : List ℕ) → t ≡ drop (length s - length t) s → (j : ℕ) → x ≡ drop j t → x ≡ drop (length s - length x) s
-tail-behind s t x e j f = tail_of s x (length s - length t + j) (f ∙ rw (← drop-drop j (length s - length t) s, ← e))

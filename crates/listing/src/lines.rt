@@ -64,7 +64,7 @@ fn write_record(number: usize, front: Record, output: &mut Output)
     }
 }
 
-// The lines of the first records, as many as are said.
+// The lines of the first records, as many as are said: what stands behind them in the buffer is none.
 fn write_records(records: &[u8], count: usize, output: &mut Output)
     ensures { Writes (text_of count 0 records.now) output.old output.new }
 {

@@ -41,7 +41,7 @@ fn reserve_for(file: &[u8], place: usize, payout: u16) -> Option<usize>
     Reading::new(&mut facts, &mut scratch).reserve_bounding_payout(&entry, 0)
 }
 
-// That of the k-th payout among the calls of the entry at a place of the file.
+// That of the k-th payout among the calls of the entry at a place of the file. k is asked for, and is no length of the calls.
 fn reserve_among(file: &[u8], place: usize, calls: &[u16], k: usize) -> Option<usize>
     requires { CallsOf file.now place calls.now }
     ensures { result ≡ index_in (fields file.now) (payout_reserve (fields file.now) (entry_of file.now place) k) }

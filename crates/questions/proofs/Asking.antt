@@ -156,12 +156,6 @@ module _ (outer : ℕ) (x : List ℕ) (place start depth : ℕ) (slots : Slots) 
       pub asking-falls : length x - n.at < length x - at
       asking-falls = omega (arith, found.starts, found.stops, found.within, found.moves)
 
-      pub asking-order : a ≤ b
-      asking-order = omega (arith, found.starts, found.stops)
-
-      pub asking-stop : b ≤ length x
-      asking-stop = found.within
-
       -- the content that is handed on: it is shorter, and there is room for it
       pub asking-inner : (m : ℕ) → 2 * length x ≡ m → (y : List ℕ) → y ≡ take (b - a) (drop a x) → 2 * length y + 1 < m
       asking-inner m h y e =

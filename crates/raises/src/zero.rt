@@ -1,5 +1,5 @@
 // SPDX-License-Identifier: Apache-2.0 OR MIT
-// Whether a state field starts at zero.
+// Whether a state field starts at zero. The field's name stands beside the file, which callers have from elsewhere.
 ghost use Rattle.std.specs.Prelude.{◌≡◌};
 ghost use Rattle.laws.specs.Lists.{all};
 ghost use Rattle.fields.specs.Field.{fields, front};

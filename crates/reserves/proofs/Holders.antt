@@ -125,13 +125,6 @@ module _ (file : List ℕ) (l : List Named) (amount : Field) (guard : Found) (le
     pub listing-end : 0 < n → Ahead file l amount guard ahead table
     listing-end h = record { fewer = v.fewer h; first = v.first }
 
-    pub listing-all : ahead ≡ None → Ahead file l amount guard None table
-    listing-all e = rw e at (listing-end (some n v.none))
-      where
-        some : (n : ℕ) → (n ≡ 0 → ahead ≡ Some guard) → 0 < n
-        some zero h = cc (h refl)
-        some (suc n) h = omega arith
-
   module _ (next : Found) (table : List ℕ) (n : ℕ) (v : Listing file l amount guard lent (Some next) table n) where
     no-longer : length next.part.now ≤ length guard.part.now
     no-longer = go n v.none v.fewer
@@ -171,9 +164,6 @@ module _ (file : List ℕ) (l : List Named) (amount : Field) (guard : Found) (le
 pub record Holding (file token numbers : List ℕ) (i : ℕ) : Type 0 where
   pub within : i ≤ length numbers
   pub left : first_holding file token (drop i numbers) None ≡ first_holding file token numbers None
-
-pub holding-all : (file token numbers : List ℕ) → Holding file token numbers 0
-holding-all file token numbers = record { within = omega arith; left = refl }
 
 module _ (file token numbers : List ℕ) (i : ℕ) (v : Holding file token numbers i) where
   pub holding-end : length numbers ≤ i → None ≡ first_holding file token numbers None

@@ -134,6 +134,3 @@ module _ (model : Fields) (e : Placed) (lent : ℕ) where
   unfolding placed_verdict at_most
   tenth p ps k = cc k
 
-  pub not-tenth : drop 64 (body_where is_payout e) ≡ [] → placed_verdict model e lent ≡ backed_verdict model e lent
-  unfolding placed_verdict backed_verdict at_most
-  not-tenth k = cc k

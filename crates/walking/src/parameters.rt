@@ -41,7 +41,8 @@ pub fn has_asset_parameter(s: &[u8], name: &[u8]) -> bool
         .any(|f| same_bytes(name, name_of(f.part)))
 }
 
-// Lists a field where it is an asset parameter.
+// Lists a field where it is an asset parameter. A field stands anywhere, so that its place is small is a clause of what lists it in two
+// bytes.
 fn list_asset(field: &Field, assets: &mut Table<Named>)
     requires place { field.now.place < 65536 }
     requires room { assets.old.count + 1 < 2 ^ 64 }
