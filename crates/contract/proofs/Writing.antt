@@ -30,7 +30,8 @@ number-written k bytes e a b w =
     let low : k % 65536 % 256 ≡ k % 256 = omega arith in
     rw (← high, ← low, ← e) w
 
-pub head-written : (x : Numbers) (k : ℕ) → k ≡ outcome_number x.outcome → (a b c d : Output) → Writes (k ∷ []) a b → Writes (two_bytes x.first) b c → Writes (two_bytes x.second) c d → Writes (head_of x) a d
+pub head-written : (x : Numbers) (k : ℕ) → k ≡ outcome_number x.outcome → (a b c d : Output) → Writes (k ∷ []) a b →
+    Writes (two_bytes x.first) b c → Writes (two_bytes x.second) c d → Writes (head_of x) a d
 unfolding head_of
 head-written x k e a b c d p q r = rw (← e) (writes_then a (k ∷ []) (two_bytes x.first ++ two_bytes x.second) b d p (writes_then b (two_bytes x.first) (two_bytes x.second) c d q r))
 

@@ -31,7 +31,7 @@ use Rattle.matching.specs.Coded.{coded, coded_cover, coded_reason, answered, equ
 use Rattle.matching.specs.declared.answer.Cover.{Cover}
 use Rattle.matching.specs.declared.answer.Cover.TheVariants.{Reserve}
 use Rattle.matching.specs.declared.answer.Reason.{Reason}
-use Rattle.matching.specs.declared.answer.Reason.TheVariants.{SplitWithoutAmount, AmountTaken, NoReserve, ReserveUsed}
+use Rattle.matching.specs.declared.answer.Reason.TheVariants.{SplitWithoutAmount, ConflictAtEqual, AmountTaken, ConflictAtBounding, NoReserve, ReserveUsed}
 use Rattle.matching.specs.declared.answer.Pass.{Pass}
 use Rattle.matching.specs.declared.payout.Payout.{Payout}
 use Rattle.matching.proofs.Steps.{passes, cover_by, conflict_by, split_step, answer-step, taken_step, untaken-step, backing-step, no-backing-step, reserve-step, no-reserve-step, conflict-step}
@@ -149,6 +149,24 @@ module _ (file : List ℕ) (p : Payout) (pass : Pass) (w : Ready file p pass) wh
         backing-covers n c j =
             ap (λ a. Ok a) (j ∙ sym (cover-coded file en i t))
             ∙ sym (ap coded (found ∙ take_step marks payout (passes t payout) (backing_at file en i) _ _ (token ∙ n)))
+
+    -- one that equals the amount
+    module _ (o : Option ℕ) (f : o ≡ first_free file en pass.marks (equal_to (payout_amount (front s)))) where
+      pub equal-none : o ≡ None → (a : Result Cover Reason) → a ≡ by not_taken → a ≡ by by_equal
+      equal-none h a e = e ∙ backing-none Equals o f h
+
+      module _ (i : ℕ) (h : o ≡ Some i) (b : Bool) (g : b ≡ differ (token_at file en i) (payout_token (front s))) where
+        pub equal-conflict : b ≡ true → Err ConflictAtEqual ≡ by by_equal
+        equal-conflict n = backing-conflict Equals o f i h b g n ConflictAtEqual refl
+
+        pub equal-covers : b ≡ false → (c : Cover) → c ≡ equal_at en.debits i → Ok c ≡ by by_equal
+        equal-covers = backing-covers Equals o f i h b g
+
+    -- and one that bounds it
+    module _ (o : Option ℕ) (f : o ≡ first_free file en pass.marks (bounded_by (payout_amount (front s))))
+        (i : ℕ) (h : o ≡ Some i) (b : Bool) (g : b ≡ differ (token_at file en i) (payout_token (front s))) where
+      pub bounding-conflict : b ≡ true → Err ConflictAtBounding ≡ by by_bounding
+      bounding-conflict n = backing-conflict Bounds o f i h b g n ConflictAtBounding refl
 
     -- a split without an amount
     module _ (x : List ℕ) (e : front x ≡ payout_amount (front s)) (there : Bool) (f : there ≡ present (front x)) where

@@ -1,5 +1,5 @@
 -- Facts that are right stay right where a number that is right is remembered, and so they may be asked for the field.
-use Rattle.std.proofs.Common.{ℕ, ◌<◌, ◌≡◌, refl, sym, ◌∙◌, Bool, true, false, cond, List, Option, None, Some, arith, ltb-true, ltb-false, ltb}
+use Rattle.std.proofs.Common.{ℕ, ◌<◌, ◌≡◌, refl, sym, ap, ◌∙◌, Bool, true, false, cond, List, Option, None, Some, arith, ltb-true, ltb-false, ltb}
 use Rattle.std.proofs.Common.{length, get_or, slice_set, replicate, length-set, get_or-set_other, get_or-set_same, eqb, eqb-true}
 use lib.ListN.{length-replicate, get_or-replicate, get_or-eq_default}
 use borrow.Author.Tests.{eqb-false}
@@ -7,7 +7,7 @@ use Rattle.fields.specs.Field.{fields}
 use Rattle.fundings.specs.Remembered.{not_yet, state_fields}
 use Rattle.reserve_tokens.specs.ReserveTokens.{reserve_token}
 use Rattle.reserve_tokens.specs.Numbers.{reserve_number}
-use Rattle.fundings.specs.Funded.{remembered_at}
+use Rattle.fundings.specs.Funded.{Relisted, remembered_at}
 use Rattle.fundings.specs.declared.facts.Facts.{Facts}
 use Rattle.reserves.specs.States.{state_name}
 use Rattle.reserves.specs.Holding.{is_token, holds_token, FactsOf, Numbered}
@@ -66,6 +66,12 @@ pub each-written : (file indices numbers : List ℕ) → Numbered file indices n
     (last : Facts) → last ≡ record facts { held = slice_set facts.held index number } → FactsOf last
 each-written file indices numbers w j h facts same v number e index f last g =
     still-facts facts v index number (state_name facts.file.now index) refl (rw (e, f, same) (w.each j h)) last g
+
+-- facts whose maps are listed are right, since they remember the same
+pub facts-relisted : (facts : Facts) → FactsOf facts → (last : Facts) → Relisted facts last → FactsOf last
+facts-relisted facts v last w = record {
+  right = λ i n h. v.right i n (sym (w.kept i) ∙ h) ∙ ap (λ f. reserve_number f.now (state_name f.now i)) (sym w.file);
+}
 
 -- the field's token is the one that is asked for
 pub by_token : (file token : List ℕ) (index : ℕ) (t : List ℕ) → t ≡ reserve_token (fields file) (state_name file index) →

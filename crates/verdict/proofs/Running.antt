@@ -1,5 +1,6 @@
 -- Payout by payout: those before the k-th have their covers, and those that are left decide.
-use Rattle.std.proofs.Common.{ℕ, suc, ◌+◌, ◌-◌, ◌*◌, ◌/◌, ◌%◌, ◌≤◌, ◌<◌, arith, ◌≡◌, refl, ap, ◌∙◌, List, [], ◌∷◌, ◌++◌, append-nil, length, take, drop, replicate, length-append, Result, Ok, Err, None}
+use Rattle.std.proofs.Common.{ℕ, suc, ◌+◌, ◌-◌, ◌*◌, ◌/◌, ◌%◌, ◌≤◌, ◌<◌, arith, ◌≡◌, refl, ap, ◌∙◌}
+use Rattle.std.proofs.Common.{List, [], ◌∷◌, ◌++◌, append-nil, length, take, drop, replicate, length-append, Result, Ok, Err, None}
 use Rattle.std.proofs.Common.{drop_of_length-le, take_at, drop-cons}
 use lib.ListN.{length-replicate}
 use lib.Seq.{sets, sets-eq, length-sets}
