@@ -2,7 +2,6 @@
 use Rattle.std.proofs.Common.{ℕ, zero, suc, ◌+◌, ◌*◌, ◌≤◌, ◌<◌, ◌≡◌, refl, sym, ap, ◌∙◌, Bool, true, false, not, ◌&&◌, List, [], ◌∷◌, None, Some, arith, leb-true}
 use Rattle.std.proofs.Common.{ltb-true, ltb-false, ltb, eqb, length, get_or, take, drop, length-drop, drop_of_length-le}
 use borrow.Author.Tests.{not-true, not-false}
-use lib.Seq.{length-sets}
 use Rattle.std.specs.List.{position}
 use Rattle.std.proofs.lemmas.List.Quantifiers.{position-Some}
 use Rattle.laws.specs.Texts.{same_bytes}
@@ -46,9 +45,6 @@ module _ (file : List ℕ) (n : ℕ) where
 
     -- and the table holds them in front
     module _ (m : count ≤ length zeros) where
-      pub calls-room : count ≤ length calls
-      calls-room = rw (l.kept, length-sets) m
-
       pub calls-front : take count calls ≡ places_of Call (body_exprs (placed_at file n))
       calls-front = listed-front (places_of Call (body_exprs (placed_at file n))) zeros calls count l m
 

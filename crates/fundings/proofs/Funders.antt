@@ -18,18 +18,15 @@ use Rattle.fundings.specs.FundingTokens.{funds}
 use Rattle.fundings.specs.Fundings.{funding_number}
 
 -- what the code tests
-module _ (file m : List ℕ) (n found : ℕ) (b : Bool) (x : List ℕ) (e : x ≡ drop n file) (f : b ≡ funds m (front x)) where
-  at_place : b ≡ funds m (front (drop n file))
-  at_place = rw e at f
-
+module _ (file m : List ℕ) (n found : ℕ) (b : Bool) (f : b ≡ funds m (front (drop n file))) where
   abbrev pub with_entry : ℕ
   with_entry = cond (funds m (front (drop n file))) (joined file found (tokens_number file (placed_at file n))) found
 
   pub not-funding : not b ≡ true → found ≡ with_entry
-  not-funding h = rw (← at_place, not-true b h)
+  not-funding h = rw (← f, not-true b h)
 
   pub funding-too : not b ≡ false → (k : ℕ) → k ≡ tokens_number file (placed_at file n) → (r : ℕ) → r ≡ joined file found k → r ≡ with_entry
-  funding-too h k g r q = q ∙ rw (← at_place, not-false b h, g)
+  funding-too h k g r q = q ∙ rw (← f, not-false b h, g)
 
 -- what the entries among some fields name, of those that fund the map
 abbrev numbers_among : (file m : List ℕ) → List Placed → List ℕ

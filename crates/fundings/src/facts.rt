@@ -27,7 +27,7 @@ pub struct Facts<'a> {
     ghost funded: { listed ≡ true → EachMap file.now maps.items },
 }
 
-// The facts at the start, when nothing is worked out yet.
+// The facts at the start, when nothing is worked out yet. What makes them has to ask what their type says of the file.
 pub fn nothing_known(file: &[u8]) -> Facts
     requires { length file.now ≤ 32768 }
     ensures file { result.file ≡ file.entry }

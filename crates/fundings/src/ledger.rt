@@ -104,6 +104,15 @@ fn join_tokens(file: &[u8], a: u16, b: u16) -> u16
     join(file, usize::from(a), usize::from(b)) as u16
 }
 
+// What an entry names, as the tables have it.
+fn named_tokens(entry: &EntryPlace, scratch: &mut [u16]) -> u16
+    requires { length entry.now.file.now ≤ 3 * length scratch.old }
+    ensures { result ≡ tokens_number entry.now.file.now (placed_at entry.now.file.now entry.now.place) }
+{
+    // tokens_number says that it is small: try_from would have to answer for what can't be.
+    tokens_number(entry, scratch) as u16
+}
+
 // Joins a set to that of the map whose name stands at a place. A map that is not listed yet is listed; an error says that there is
 // no room.
 fn join_map(
@@ -156,15 +165,6 @@ fn list_calls(
         list_call(funder, named, usize::from(call), maps)?;
     }
     Ok(())
-}
-
-// What an entry names, as the tables have it.
-fn named_tokens(entry: &EntryPlace, scratch: &mut [u16]) -> u16
-    requires { length entry.now.file.now ≤ 3 * length scratch.old }
-    ensures { result ≡ tokens_number entry.now.file.now (placed_at entry.now.file.now entry.now.place) }
-{
-    // tokens_number says that it is small: try_from would have to answer for what can't be.
-    tokens_number(entry, scratch) as u16
 }
 
 // The same of all calls of an entry that has many. What it names is worked out first, since the scratch table serves for both.

@@ -21,13 +21,14 @@ fn joined_with(entry: &EntryPlace, map: &[u8], found: usize, table: &mut [u16]) 
     ensures { result ≡ joined_if entry.now.file.now (funds map.now (front (drop entry.now.place entry.now.file.now))) found
         (tokens_number entry.now.file.now (placed_at entry.now.file.now entry.now.place)) }
 {
-    if !entry_funds(entry.part(), map) {
+    if !entry_funds(entry, map) {
         return found;
     }
     join(entry.file, found, tokens_number(entry, table))
 }
 
-// The set of the tokens named by the entries that fund the map. The search ends where two differ.
+// The set of the tokens named by the entries that fund the map. The search ends where two differ. It takes the file alone, and the facts
+// take it: so it asks that the file is short.
 pub fn ledger_funding_number(file: &[u8], map: &[u8]) -> usize
     requires { length file.now ≤ 32768 }
     ensures reads { result ≡ funding_number file.now map.now }

@@ -1,5 +1,5 @@
 -- The guards of an entry, one after the other: each stands in the file, and a second token leaves none, be it the same or not.
-use Rattle.std.proofs.Common.{ℕ, ◌+◌, ◌≡◌, refl, ◌∙◌, Bool, true, false, not, ◌&&◌, List, [], ◌∷◌, map, eqb-true, eq-eqb, ne_eqb, eqb, length, drop}
+use Rattle.std.proofs.Common.{ℕ, ◌+◌, ◌≡◌, refl, ◌∙◌, Bool, true, false, not, ◌&&◌, List, [], ◌∷◌, map, eqb-true, eq-eqb, ne_eqb, eqb, drop}
 use borrow.Author.Tests.{eqb-false}
 use Rattle.laws.specs.Lists.{filter}
 use Rattle.laws.proofs.Lists.{Every}
@@ -86,10 +86,6 @@ module _ (file : List ℕ) (found r : ℕ) (rest : Fields) (i : Guarding file fo
   module _ (f : Found) (behind : Fields) (h : Step rest f behind) where
     both-stand : Every (Stands file) (shown f ∷ left behind)
     both-stand = rw (left-next rest f behind h) at i.stands
-
-    -- one of the file's own length
-    pub guard-place : f.place + length f.part.now ≡ rest.place + length rest.rest.now
-    guard-place = rw (h.place, h.part)
 
     module _ (g : ℕ) (e : g ≡ tag (front f.part.now)) where
       -- another field is passed over

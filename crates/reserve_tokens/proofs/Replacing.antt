@@ -1,8 +1,7 @@
 -- The numbers of several state fields, one after the other: those that were gone through are what they should be, and the others are as
 -- they were.
-use Rattle.std.proofs.Common.{ℕ, ◌+◌, ◌≤◌, ◌<◌, ◌≡◌, refl, sym, ◌∙◌, Bool, true, false, List, arith, length, get_or, set, replicate, length-set, get_or-set_same, get_or-set_other, eqb, eqb-true, drop}
+use Rattle.std.proofs.Common.{ℕ, ◌≤◌, ◌<◌, ◌≡◌, sym, ◌∙◌, Bool, false, List, arith, length, get_or, replicate, drop}
 use lib.ListN.{length-replicate, get_or-replicate}
-use borrow.Author.Tests.{eqb-false}
 use Rattle.laws.specs.Lists.{any}
 use Rattle.fields.specs.Field.{fields, whole, front, tag, parts, row}
 use Rattle.fields.specs.Row.{Step}
@@ -12,7 +11,6 @@ use Rattle.fields.proofs.EndOf.{EndOf}
 use Rattle.walking.specs.Table.{placed_at}
 use Rattle.tags.specs.Tag.{Entry, Set, AddTo, between}
 use Rattle.reserve_tokens.specs.Numbers.{numbers_in, reserve_number}
-use Rattle.reserve_tokens.specs.Agreeing.{Agreed, Agreeing}
 use Rattle.reserve_tokens.specs.Each.{nth_name, Each, EachAgreed, EachAgreeing, EachAllAgree}
 use Rattle.reserve_tokens.proofs.Raised.{none-assigned}
 use Rattle.reserve_tokens.proofs.Numbers.{reserve-found}
@@ -26,33 +24,9 @@ pub record Replacing (P : ℕ → ℕ → Type 0) (before now : List ℕ) (j : �
   pub done : (i : ℕ) → i < j → P i (get_or now i 0)
   pub left : (i : ℕ) → j ≤ i → get_or now i 0 ≡ get_or before i 0
 
-module _ (P : ℕ → ℕ → Type 0) (before : List ℕ) where
-  pub replacing-none : Replacing P before before 0
-  replacing-none = record { long = refl; done = λ i h. absurd (omega (arith, h)); left = λ i h. refl }
-
-  module _ (now : List ℕ) (j : ℕ) (v : Replacing P before now j) where
-    pub replacing-on : j < length now → (k : ℕ) → P j k → Replacing P before (set now j k) (j + 1)
-    replacing-on h k p = record {
-      long = length-set now j k ∙ v.long;
-      done = λ i l. go i l (eqb i j) refl;
-      left = λ i l. get_or-set_other now j i k 0 (λ e. absurd (omega (arith, l, e))) ∙ v.left i (omega (arith, l));
-    }
-      where
-        go : (i : ℕ) → i < j + 1 → (b : Bool) → eqb i j ≡ b → P i (get_or (set now j k) i 0)
-        go i l true e = let z : i ≡ j = eqb-true i j e in rw (z, get_or-set_same now j k 0 h) p
-        go i l false e =
-            let n : i ≡ j → ⊥ = eqb-false i j e in
-            rw (get_or-set_other now j i k 0 n) (v.done i (omega (arith, l, n)))
-
-    pub replacing-end : (places : List ℕ) → length places ≤ length before → length places ≤ j → Each P places now
-    replacing-end places h l = record { room = rw v.long h; each = λ i m. v.done i (omega (arith, m, l)) }
-
 -- The numbers of an entry's raises
 
 module _ (file places before : List ℕ) where
-  pub each-agreed : EachAgreed file places before → (j : ℕ) → j < length places → (k : ℕ) → k ≡ get_or before j 0 → Agreed file k
-  each-agreed v j h k e = rw e (v.each j h)
-
   -- an entry that sets and adds to nothing changes none
   pub each-passed-over : EachAgreed file places before → (place : ℕ) → any (λ f. between Set AddTo (tag f)) (row (parts (front (drop place file)))) ≡ false →
       EachAgreeing file places before (placed_at file place) before
@@ -69,14 +43,7 @@ pub nothing-assigned : (file : List ℕ) (place : ℕ) (x : List ℕ) → x ≡ 
     any (λ f. between Set AddTo (tag f)) (row (parts (front (drop place file)))) ≡ false
 nothing-assigned file place x e p f t g b k h = rw (← e, ← f, ← g) (sym k ∙ h)
 
--- two bytes hold it
-pub agreeing-small : (file : List ℕ) (before : ℕ) (ns : List ℕ) (r : ℕ) → Agreeing file before ns r → r < 65536
-agreeing-small file before ns r v = go (eqb r 0) refl
-  where
-    go : (b : Bool) → eqb r 0 ≡ b → r < 65536
-    go true e = omega (arith, eqb-true r 0 e)
-    go false e = (v.found (eqb-false r 0 e)).small
-
+-- two bytes hold the number of a token of the file
 pub number-small : (file name : List ℕ) (r : ℕ) → r ≡ reserve_number file name → length file ≤ 32768 → r < 65536
 number-small file name r e h = rw e (reserve-found file name h).small
 

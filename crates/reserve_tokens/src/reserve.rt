@@ -52,8 +52,8 @@ fn after_raises(entry: &Raising, name: &[u8], before: usize) -> usize
 }
 
 // What is the same for all raises of the entry at a place of the file. A scratch table serves for the places of its calls, and another
-// for its asset parameters. The facts and the scratch table are no struct: list_body takes the table alone, for as long as what is
-// listed in it lives, so a struct would be taken apart here and made anew for each entry, and the clause `room` is plainer.
+// for its asset parameters. The facts and the tables are no struct: list_body and list_assets take a table alone, for as long as what
+// is listed in it lives, so a struct would be taken apart here and made anew for each entry, and the clause is plainer.
 fn list_raising<'a>(
     facts: &'a Facts<'a>,
     place: usize,
@@ -127,7 +127,8 @@ fn started(file: &[u8], name: &[u8], agreed: usize) -> usize
     agreed
 }
 
-// The same, by all entries. It means the same for the whole file.
+// The same, by all entries. It means the same for the whole file. A name and the table stand side by side in three functions that call
+// one another, and a struct of both would be made for that one call.
 pub fn reserve_number(facts: &Facts, name: &[u8], scratch: &mut [u16]) -> usize
     requires { length facts.now.file.now ≤ 3 * length scratch.old }
     ensures reads { result ≡ reserve_number facts.now.file.now name.now }
@@ -137,7 +138,8 @@ pub fn reserve_number(facts: &Facts, name: &[u8], scratch: &mut [u16]) -> usize
     started(facts.file, name, raises_number(facts, name, scratch))
 }
 
-// What the raises of each state field at the places of a table agree on with those of an entry, beside what they agreed on before.
+// What the raises of each state field at the places of a table agree on with those of an entry, beside what they agreed on before. The
+// places and the numbers are no struct: the places are the caller's and stay, and the numbers are what is handed out.
 fn after_raises_of_each(entry: &Raising, places: &[u16], numbers: &mut [u16])
     requires { EachAgreed entry.now.facts.now.file.now places.now numbers.old }
     ensures { EachAgreeing entry.now.facts.now.file.now places.now numbers.old (placed_at entry.now.facts.now.file.now entry.now.place) numbers.new }

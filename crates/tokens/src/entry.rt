@@ -13,7 +13,7 @@ pub struct EntryPlace<'a> {
     ghost within: { place ≤ length file.now },
 }
 
-// The entry at a place of the file.
+// The entry at a place of the file. What makes one has to ask what its type says.
 pub fn entry_at(file: &[u8], place: usize) -> EntryPlace
     requires short { length file.now ≤ 32768 }
     requires within { place ≤ length file.now }

@@ -1,5 +1,5 @@
 -- The table has all calls of the body, and one that funds the map is among them where some expression does.
-use Rattle.std.proofs.Common.{rules, ◌∙◌}
+use Rattle.std.proofs.Common.{◌≤◌, ◌∙◌, rules, arith, length, length-drop}
 use Rattle.std.proofs.lemmas.Iterator.{YieldsList-from_slice}
 use Rattle.std.proofs.lemmas.Iterator.Search.{any_from_yields_List}
 use Rattle.fields.specs.Field.{front}
@@ -11,6 +11,9 @@ use Rattle.fundings.proofs.funding.entry_funds.Goals as goal
 pub returns : goal.returns
 unfolding field_at
 returns c =
-    any_from_yields_List (field_at (is_funding c.args.map.now (front c.args.s.now)) c.args.s.now) c.any.new.self _ c.any.result c.any.ensures.ran
+    let s = c.part-s.result.now in
+    let short : length s ≤ 32768 = rw (c.part-s.ensures, length-drop) (omega (arith, c.args.entry.now.short)) in
+    rw (← c.part-s.ensures)
+    (any_from_yields_List (field_at (is_funding c.args.map.now (front s)) s) c.any.new.self _ c.any.result c.any.ensures.ran
     (YieldsList-from_slice c.listed.result.now (search rules)) (λ x b q k. search rules)
-    ∙ funding-any c.args.s.now c.args.map.now c.requires _ _ _ c.list_body-calls.ensures (search rules) _ c.listed.ensures
+    ∙ funding-any s c.args.map.now short _ _ _ c.list_body-calls.ensures (search rules) _ c.listed.ensures)
