@@ -115,7 +115,8 @@ impl Marks {
             && test.passes(backing_amount(file, entry, i), amount))
     }
 
-    // Whether a taken backing equals it. A function for both would take whether it asks the free ones, and find a number in vain here.
+    // Whether a taken backing equals it. A function for both would take whether it asks the free ones, and here find a number in
+    // vain.
     pub fn is_taken(&self, file: &[u8], entry: &Entry, s: &[u8]) -> bool
         ensures { result ≡ any_taken file.now entry.now self.now (equal_to (payout_amount (front s.now))) }
     {

@@ -72,8 +72,8 @@ fn record_entry(reading: &mut Reading, place: usize, output: &mut Output) -> Out
     numbers.outcome
 }
 
-// Writes the records of all entries of a file that passes questions 1 to 8. What the verdicts share is worked out once. That the table
-// has room is a clause here, and from here on the Reading's.
+// Writes the records of all entries of a file that passes questions 1 to 8. What the verdicts share is worked out once. That the
+// table has room is a clause here, and from here on the Reading's.
 fn record_entries(file: &[u8], scratch: &mut [u16], out: &mut [u8]) -> Recorded
     requires passed { ask_file file.now ≡ passes }
     requires scratch { length file.now ≤ 3 * length scratch.old }

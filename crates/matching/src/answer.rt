@@ -119,8 +119,8 @@ impl Pass {
         Ok(Cover::Reserve { index })
     }
 
-    // The first covering reserve, rejecting if there is none or it is used. What a payout needs is said of the file, the payout and the
-    // pass together, of which each changes by itself, so that it is a clause and no ghost field.
+    // The first covering reserve, rejecting if there is none or it is used. What a payout needs is said of the file, the payout and
+    // the pass together, of which each changes by itself, so that it is a clause and no ghost field.
     fn by_reserve(&self, payout: &Payout, reading: &mut Reading) -> Answer
         requires { Ready (file_of reading.old) payout.now self.now }
         ensures same_file { file_of reading.new ≡ file_of reading.old }
@@ -131,8 +131,8 @@ impl Pass {
         self.by_reserve_at(index)
     }
 
-    // The answer by the first free backing that passes a test, rejecting if its token and the payout's conflict: no other one is tried
-    // then. None where there is no such backing: the next step of the rules decides.
+    // The answer by the first free backing that passes a test, rejecting if its token and the payout's conflict: no other one is
+    // tried then. None where there is no such backing: the next step of the rules decides.
     fn by_backing(&mut self, test: Test, payout: &Payout, reading: &mut Reading) -> Option<Answer>
         requires { Ready (file_of reading.old) payout.now self.old }
         ensures same_file { file_of reading.new ≡ file_of reading.old }

@@ -145,8 +145,8 @@ fn asked_verdict(reading: &mut Reading, entry: &Entry, covers: &mut [u8]) -> Ver
     cover_payouts(reading, entry, covers)
 }
 
-// The verdict on the entry at a place of a file that passes questions 1 to 9: question 10 and what comes behind it. The place is within
-// by each search that finds one; a struct of the file and it would have to be taken apart again where its parts are read.
+// The verdict on the entry at a place of a file that passes questions 1 to 9: question 10 and what comes behind it. The place is
+// within by each search that finds one; a struct of the file and it would have to be taken apart again where its parts are read.
 pub fn placed_verdict(reading: &mut Reading, place: usize, covers: &mut [u8]) -> Verdict
     requires { place ≤ length (file_of reading.old) }
     ensures same_file { file_of reading.new ≡ file_of reading.old }

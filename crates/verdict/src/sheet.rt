@@ -35,7 +35,8 @@ fn index_of(cover: Cover) -> usize
     }
 }
 
-// Writes the three bytes of a cover as the k-th of a sheet. As a slice of three the caller would have to cut them out, by the same sums.
+// Writes the three bytes of a cover as the k-th of a sheet. As a slice of three the caller would have to cut them out, by the same
+// sums.
 pub fn write_cover(cover: Cover, sheet: &mut [u8], k: usize)
     requires { 3 * k + 3 ≤ length sheet.old }
     ensures { sheet.new ≡ sets sheet.old (3 * k) (cover_bytes (cover_of cover)) }
