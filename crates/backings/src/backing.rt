@@ -14,7 +14,7 @@ ghost use Rattle.fundings.specs.FundingTokens.{funding_token};
 ghost use Rattle.fundings.specs.Fundings.{funding_number};
 ghost use Rattle.entries.specs.Entered.{entry_of};
 ghost use Rattle.guards.specs.Payouts.{payout_token};
-ghost use Rattle.reserves.specs.Reading.{file_of};
+ghost use Rattle.reserves.specs.Reading.{file_of, Same};
 ghost use Rattle.backings.specs.Tables.{Admitted, debit_at, amount_in, token_at};
 
 use bounds::Amount;
@@ -61,7 +61,8 @@ pub fn backing_amount<'a>(file: &'a [u8], entry: &Entry, i: usize) -> Amount<'a>
 fn admitted_number(reading: &mut Reading, place: usize, admitted: &mut Option<usize>) -> usize
     requires inside { place ≤ length (file_of reading.old) }
     requires admits { Admitted (file_of reading.old) place admitted.old }
-    ensures same_file { file_of reading.new ≡ file_of reading.old }
+    ensures same { Same reading.old reading.new }
+    ensures facts { reading.new.facts.now ≡ reading.old.facts.now }
     ensures number { result ≡ tokens_number (file_of reading.old) (placed_at (file_of reading.old) place) }
     ensures admits { Admitted (file_of reading.old) place admitted.new }
 {
@@ -98,7 +99,8 @@ pub fn tokens_conflict(
 ) -> bool
     requires inside { entry.now.place ≤ length (file_of reading.old) }
     requires admits { Admitted (file_of reading.old) entry.now.place admitted.old }
-    ensures same_file { file_of reading.new ≡ file_of reading.old }
+    ensures same { Same reading.old reading.new }
+    ensures facts { reading.new.facts.now ≡ reading.old.facts.now }
     ensures answer { result ≡ differ (token_at (file_of reading.old) entry.now i) (payout_token (front s.now)) }
     ensures admits { Admitted (file_of reading.old) entry.now.place admitted.new }
 {

@@ -2,7 +2,7 @@
 ghost use Rattle.std.specs.Prelude.{◌≡◌, ◌*◌, ◌<◌, ◌≤◌, length};
 ghost use Rattle.questions.specs.Questions.{passes, ask_file};
 ghost use Rattle.questions.specs.Answers.{number_of};
-ghost use Rattle.reserves.specs.Reading.{file_of};
+ghost use Rattle.reserves.specs.Reading.{file_of, Same};
 ghost use Rattle.output.specs.Writes.{Writes};
 ghost use Rattle.contract.specs.Records.{two_bytes};
 ghost use Rattle.contract.specs.Coded.{head_of, record_of, CoversIn};
@@ -63,7 +63,7 @@ fn write_record(numbers: Numbers, covers: &[u8], output: &mut Output)
 // Writes the record of the entry at a place, and answers what the verdict on it is.
 fn record_entry(reading: &mut Reading, place: usize, output: &mut Output) -> Outcome
     requires { place ≤ length (file_of reading.old) }
-    ensures same_file { file_of reading.new ≡ file_of reading.old }
+    ensures same { Same reading.old reading.new }
     ensures record { EntryRecorded (file_of reading.old) place output.old output.new result }
 {
     let mut covers = [0u8; COVERS];

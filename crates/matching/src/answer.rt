@@ -2,7 +2,7 @@
 // The answer for one payout: a cover or a rejection. The steps are those of the rules, each of which decides or leaves the payout
 // to the next.
 ghost use Rattle.std.specs.Prelude.{◌≡◌, ◌+◌, ◌≤◌, None, unwrap_or};
-ghost use Rattle.reserves.specs.Reading.{file_of};
+ghost use Rattle.reserves.specs.Reading.{file_of, Same};
 ghost use Rattle.backings.specs.Marked.{all_free, uses};
 ghost use Rattle.backings.specs.Tables.{Admitted};
 ghost use Rattle.matching.specs.Matching.{by_reserve, answer};
@@ -123,7 +123,7 @@ impl Pass {
     // the pass together, of which each changes by itself, so that it is a clause and no ghost field.
     fn by_reserve(&self, payout: &Payout, reading: &mut Reading) -> Answer
         requires { Ready (file_of reading.old) payout.now self.now }
-        ensures same_file { file_of reading.new ≡ file_of reading.old }
+        ensures same { Same reading.old reading.new }
         ensures answers { result ≡ answered by_reserve (file_of reading.old) payout.now self.now.marks }
     {
         let reserve = reading.reserve_bounding_payout(payout.entry, payout.k);
@@ -135,7 +135,7 @@ impl Pass {
     // tried then. None where there is no such backing: the next step of the rules decides.
     fn by_backing(&mut self, test: Test, payout: &Payout, reading: &mut Reading) -> Option<Answer>
         requires { Ready (file_of reading.old) payout.now self.old }
-        ensures same_file { file_of reading.new ≡ file_of reading.old }
+        ensures same { Same reading.old reading.new }
         ensures answers { unwrap_or result (answered (next_step test) (file_of reading.old) payout.now self.old.marks)
             ≡ answered (step_by test) (file_of reading.old) payout.now self.old.marks }
         ensures marks { self.new.marks ≡ self.old.marks }
@@ -155,7 +155,7 @@ impl Pass {
     // free one that bounds it decides, and at last a reserve.
     fn cover_payout(&mut self, payout: &Payout, reading: &mut Reading) -> Answer
         requires { Ready (file_of reading.old) payout.now self.old }
-        ensures same_file { file_of reading.new ≡ file_of reading.old }
+        ensures same { Same reading.old reading.new }
         ensures answers { result ≡ answered answer (file_of reading.old) payout.now self.old.marks }
         ensures marks { self.new.marks ≡ self.old.marks }
         ensures admits { Admitted (file_of reading.old) payout.now.entry.now.place self.new.admitted }
@@ -180,7 +180,7 @@ impl Pass {
     // The answer for a payout. A cover is taken.
     pub fn answer_payout(&mut self, payout: &Payout, reading: &mut Reading) -> Answer
         requires { Ready (file_of reading.old) payout.now self.old }
-        ensures same_file { file_of reading.new ≡ file_of reading.old }
+        ensures same { Same reading.old reading.new }
         ensures answers { AnswersFor (file_of reading.old) payout.now.entry.now self.old.marks payout.now.k result self.new.marks }
         ensures uses { uses self.new.marks ≤ uses self.old.marks + 1 }
         ensures admits { Admitted (file_of reading.old) payout.now.entry.now.place self.new.admitted }

@@ -1,4 +1,5 @@
 pub mod Remembering
+pub mod Same
 pub mod Placing
 pub mod Holders
 pub mod Covered

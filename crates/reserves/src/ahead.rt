@@ -3,7 +3,7 @@
 // those of which nothing is remembered yet are worked out together, since an entry is then gone through once for all of them.
 ghost use Rattle.std.specs.Prelude.{ℕ, ◌≡◌, ◌+◌, ◌≤◌, ◌<◌, length, get_or};
 ghost use Rattle.fields.specs.Field.{front};
-ghost use Rattle.reserves.specs.Reading.{file_of};
+ghost use Rattle.reserves.specs.Reading.{file_of, Same};
 ghost use Rattle.reserves.specs.Covers.{lowered_number, Ahead};
 
 use super::reading::Reading;
@@ -76,7 +76,7 @@ fn note_unknown(number: u16, facts: &Facts, unknown: &mut ArrayVec<u16, FIELDS>)
 impl<'a, 't> Reading<'a, 't> {
     // Works out and remembers the tokens of the state fields of these numbers of which nothing is remembered yet.
     pub fn work_out_unknown(&mut self, numbers: &[u16; FIELDS])
-        ensures same_file { file_of self.new ≡ file_of self.old }
+        ensures same { Same self.old self.new }
     {
         let mut unknown = ArrayVec::new();
         for &number in numbers {

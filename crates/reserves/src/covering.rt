@@ -6,7 +6,7 @@ ghost use Rattle.fields.specs.Field.{front};
 ghost use Rattle.walking.specs.Table.{placed_at};
 ghost use Rattle.guards.specs.Bounding.{bounding_from};
 ghost use Rattle.guards.specs.Lowerings.{lowering_numbers};
-ghost use Rattle.reserves.specs.Reading.{file_of};
+ghost use Rattle.reserves.specs.Reading.{file_of, Same};
 ghost use Rattle.reserves.specs.Covers.{asked_reserve, is_held, first_holding, first_covering};
 ghost use Rattle.std.specs.Prelude.{None};
 
@@ -30,7 +30,7 @@ impl<'a, 't> Reading<'a, 't> {
     // Whether the state field of a number, counted from 1, holds the token.
     #[tactic(auto, unfolding(crate::specs::Covers::is_held))]
     fn is_held(&mut self, number: usize, token: &[u8]) -> bool
-        ensures same_file { file_of self.new ≡ file_of self.old }
+        ensures same { Same self.old self.new }
         ensures held { result ≡ is_held (file_of self.old) token.now number }
     {
         match number.checked_sub(1) {
@@ -41,7 +41,7 @@ impl<'a, 't> Reading<'a, 't> {
 
     // The first of some numbers whose state field does.
     fn first_holding(&mut self, numbers: &[u16], token: &[u8]) -> Option<usize>
-        ensures same_file { file_of self.new ≡ file_of self.old }
+        ensures same { Same self.old self.new }
         ensures found { result ≡ first_holding (file_of self.old) token.now numbers.now None }
     {
         for &listed in numbers {
@@ -63,7 +63,7 @@ impl<'a, 't> Reading<'a, 't> {
         token: &[u8],
         lowerings: &[Named],
     ) -> Option<usize>
-        ensures same_file { file_of self.new ≡ file_of self.old }
+        ensures same { Same self.old self.new }
         ensures found { result ≡ first_covering (file_of self.old) token.now lowerings.now (bounding_from (front amount.now) (Some guard.entry)) }
     {
         let file = self.facts.file;
@@ -91,7 +91,7 @@ impl<'a, 't> Reading<'a, 't> {
         amount: &[u8],
         token: &[u8],
     ) -> Option<usize>
-        ensures same_file { file_of self.new ≡ file_of self.old }
+        ensures same { Same self.old self.new }
         ensures found { result ≡ first_covering (file_of self.old) token.now (lowering_numbers (front amount.now) (placed_at (file_of self.old) place)) (bounding_from (front amount.now) (Some guard.entry)) }
     {
         let mut table = [Named::default(); LOWERINGS];
@@ -102,7 +102,7 @@ impl<'a, 't> Reading<'a, 't> {
     // The state field that covers the amount of the k-th payout for its token. The maps that some call funds are listed before a
     // field's token is worked out, since its raises may come from maps.
     pub fn reserve_bounding_payout(&mut self, entry: &Entry, k: usize) -> Option<usize>
-        ensures same_file { file_of self.new ≡ file_of self.old }
+        ensures same { Same self.old self.new }
         ensures found { result ≡ asked_reserve (file_of self.old) entry.now.place entry.now.paid k }
     {
         let file = self.facts.file;

@@ -8,7 +8,7 @@ ghost use Rattle.reserve_tokens.specs.ReserveTokens.{reserve_token};
 ghost use Rattle.reserve_tokens.specs.Numbers.{reserve_number};
 ghost use Rattle.reserves.specs.States.{state_name};
 ghost use Rattle.reserves.specs.Holding.{is_token, holds_token, Placing, Numbered};
-ghost use Rattle.reserves.specs.Reading.{file_of};
+ghost use Rattle.reserves.specs.Reading.{file_of, Same};
 
 use super::reading::Reading;
 use super::state::{state_name, state_place};
@@ -39,7 +39,7 @@ fn list_places(file: &[u8], indices: &[u16], places: &mut [u16])
 impl<'a, 't> Reading<'a, 't> {
     // The number of the token that the state field of that number holds, worked out and remembered.
     fn work_out(&mut self, index: usize) -> usize
-        ensures same_file { file_of self.new ≡ file_of self.old }
+        ensures same { Same self.old self.new }
         ensures number { result ≡ reserve_number (file_of self.old) (state_name (file_of self.old) index) }
     {
         let name = state_name(self.facts.file, index);
@@ -52,7 +52,7 @@ impl<'a, 't> Reading<'a, 't> {
     // The numbers of the tokens that the state fields of these numbers hold.
     fn numbers_of(&mut self, indices: &[u16]) -> [u16; FIELDS]
         requires few { length indices.now ≤ 64 }
-        ensures same_file { file_of self.new ≡ file_of self.old }
+        ensures same { Same self.old self.new }
         ensures numbered { Numbered (file_of self.old) indices.now result }
     {
         let mut places = [0u16; FIELDS];
@@ -64,7 +64,7 @@ impl<'a, 't> Reading<'a, 't> {
     // asked for: then only the entries that raise it are gone through.
     pub fn work_out_each(&mut self, indices: &[u16])
         requires few { length indices.now ≤ 64 }
-        ensures same_file { file_of self.new ≡ file_of self.old }
+        ensures same { Same self.old self.new }
     {
         if indices.len() < 2 {
             return;
@@ -77,7 +77,7 @@ impl<'a, 't> Reading<'a, 't> {
 
     // The number of the token that the state field of that number holds, by what is remembered of the field where something is.
     fn held_number(&mut self, index: usize) -> usize
-        ensures same_file { file_of self.new ≡ file_of self.old }
+        ensures same { Same self.old self.new }
         ensures number { result ≡ reserve_number (file_of self.old) (state_name (file_of self.old) index) }
     {
         match self.facts.remembered(index) {
@@ -88,7 +88,7 @@ impl<'a, 't> Reading<'a, 't> {
 
     // The token that the state field of that number holds; no bytes where it holds none.
     fn held_token(&mut self, index: usize) -> &'a [u8]
-        ensures same_file { file_of self.new ≡ file_of self.old }
+        ensures same { Same self.old self.new }
         ensures reads { result.now ≡ reserve_token (fields (file_of self.old)) (state_name (file_of self.old) index) }
         ensures shows { result.now ≡ take (length result.now) (drop (token_place (file_of self.old) (reserve_number (file_of self.old) (state_name (file_of self.old) index))) (file_of self.old)) }
     {
@@ -98,7 +98,7 @@ impl<'a, 't> Reading<'a, 't> {
 
     // Whether the state field of that number holds a token.
     pub fn holds_token(&mut self, index: usize, token: &[u8]) -> bool
-        ensures same_file { file_of self.new ≡ file_of self.old }
+        ensures same { Same self.old self.new }
         ensures holds { result ≡ holds_token (file_of self.old) token.now index }
     {
         is_token(self.held_token(index), token)

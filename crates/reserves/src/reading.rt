@@ -17,12 +17,13 @@ pub struct Reading<'a, 't> {
 
 impl<'a, 't> Reading<'a, 't> {
     ghost use Rattle.std.specs.Prelude.{◌≡◌};
-    ghost use Rattle.reserves.specs.Reading.{file_of};
+    ghost use Rattle.reserves.specs.Reading.{file_of, Same};
 
     // Of facts of which nothing is remembered yet, or what is right, and a table that has room.
     pub fn new(facts: &'t mut Facts<'a>, scratch: &'t mut [u16]) -> Reading<'a, 't>
         requires room { length facts.old.file.now ≤ 3 * length scratch.old }
         requires right { FactsOf facts.old }
+        ensures same_facts { result.facts.ghost_name ≡ facts.entry.ghost_name }
         ensures same_file { file_of result ≡ facts.old.file.now }
     {
         Reading { facts, scratch }
@@ -30,7 +31,7 @@ impl<'a, 't> Reading<'a, 't> {
 
     // Lists the maps that some call of the file funds, where they are not listed yet.
     pub fn list_facts(&mut self)
-        ensures same_file { file_of self.new ≡ file_of self.old }
+        ensures same { Same self.old self.new }
     {
         self.facts.list_facts(self.scratch);
     }

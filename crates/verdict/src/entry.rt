@@ -3,7 +3,7 @@
 // stand beside what is asked for, an entry or its number: they belong to the answer.
 ghost use Rattle.std.specs.Prelude.{◌≡◌, ◌*◌, ◌≤◌, length, ok_or, IfSome, IfOk};
 ghost use Rattle.entries.specs.Entered.{Read, Entered};
-ghost use Rattle.reserves.specs.Reading.{file_of};
+ghost use Rattle.reserves.specs.Reading.{file_of, Same};
 ghost use Rattle.questions.specs.Answers.{asked};
 ghost use Rattle.verdict.specs.declared.entry.Objection.TheVariants.{Refused};
 ghost use Rattle.verdict.specs.Place.{place_of_entry, no_entry};
@@ -61,7 +61,7 @@ pub type Verdict = Result<Accepted, Objection>;
 fn match_payouts(reading: &mut Reading, entry: &Entry, covers: &mut [u8]) -> Verdict
     requires entered { Entered (file_of reading.old) entry.now }
     requires room { 3 * entry.now.payouts ≤ length covers.old }
-    ensures same_file { file_of reading.new ≡ file_of reading.old }
+    ensures same { Same reading.old reading.new }
     ensures answer { numbers_of result ≡ matched_answer (file_of reading.old) entry.now.place }
     ensures covers { covers.new ≡ matched_covers (file_of reading.old) entry.now.place covers.old }
 {
@@ -83,7 +83,7 @@ fn match_payouts(reading: &mut Reading, entry: &Entry, covers: &mut [u8]) -> Ver
 // Lists the maps that some call of the file funds, where a debit may ask for its map's token. A reserve that asks for one has them
 // listed by itself.
 fn list_if_asked(reading: &mut Reading, debits: usize)
-    ensures same_file { file_of reading.new ≡ file_of reading.old }
+    ensures same { Same reading.old reading.new }
 {
     if debits != 0 {
         reading.list_facts();
@@ -94,7 +94,7 @@ fn list_if_asked(reading: &mut Reading, debits: usize)
 fn cover_payouts(reading: &mut Reading, entry: &Entry, covers: &mut [u8]) -> Verdict
     requires entered { Entered (file_of reading.old) entry.now }
     requires room { 3 * entry.now.payouts ≤ length covers.old }
-    ensures same_file { file_of reading.new ≡ file_of reading.old }
+    ensures same { Same reading.old reading.new }
     ensures answer { numbers_of result ≡ matched_answer (file_of reading.old) entry.now.place }
     ensures covers { covers.new ≡ matched_covers (file_of reading.old) entry.now.place covers.old }
 {
@@ -131,7 +131,7 @@ fn ask_entry(entry: &Entry, lent: usize) -> Answer
 // Questions 10 to 12 of the entry, and then its payouts, where there are some.
 fn asked_verdict(reading: &mut Reading, entry: &Entry, covers: &mut [u8]) -> Verdict
     requires { Read (file_of reading.old) entry.now }
-    ensures same_file { file_of reading.new ≡ file_of reading.old }
+    ensures same { Same reading.old reading.new }
     ensures answer { numbers_of result ≡ placed_answer (file_of reading.old) entry.now.place (length covers.old) }
     ensures covers { covers.new ≡ placed_covers (file_of reading.old) entry.now.place covers.old }
 {
@@ -149,7 +149,7 @@ fn asked_verdict(reading: &mut Reading, entry: &Entry, covers: &mut [u8]) -> Ver
 // within by each search that finds one; a struct of the file and it would have to be taken apart again where its parts are read.
 pub fn placed_verdict(reading: &mut Reading, place: usize, covers: &mut [u8]) -> Verdict
     requires { place ≤ length (file_of reading.old) }
-    ensures same_file { file_of reading.new ≡ file_of reading.old }
+    ensures same { Same reading.old reading.new }
     ensures answer { numbers_of result ≡ placed_answer (file_of reading.old) place (length covers.old) }
     ensures covers { covers.new ≡ placed_covers (file_of reading.old) place covers.old }
 {

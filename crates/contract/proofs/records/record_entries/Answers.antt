@@ -41,7 +41,7 @@ overflow_add-count c = let few = next-counted _ c.requires.passed c.new-output.r
 pub loop-entry-preserved : goal.loop-entry-preserved
 loop-entry-preserved c = (
   rw (length-append, ← c.loop-entry.invariant.0),
-  c.record_entry-what.ensures.same_file ∙ c.loop-entry.invariant.1,
+  c.record_entry-what.ensures.same.file ∙ c.loop-entry.invariant.1,
   recording_on _ c.requires.passed c.new-output.result _ _ (next (goal.at.loop-entry-preserved c).In-Some) _ _ c.loop-entry.invariant.2 _ _
       (rw c.loop-entry.invariant.1 at c.record_entry-what.ensures.record) _ (ap outcome_number c.max-outcome.ensures ∙ worse-of _ _),
 )

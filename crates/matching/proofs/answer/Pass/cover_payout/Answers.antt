@@ -12,11 +12,11 @@ pub returns-then-is_taken-clause-answers : goal.returns-then-is_taken-clause-ans
 returns-then-is_taken-clause-answers c = search answer-taken
 
 pub returns-in-Some-by_backing-clause-answers : goal.returns-in-Some-by_backing-clause-answers
-returns-in-Some-by_backing-clause-answers c = search (answer-bounding, rw c.by_backing.ensures.same_file at c.by_backing-2.ensures.answers)
+returns-in-Some-by_backing-clause-answers c = search (answer-bounding, rw c.by_backing.ensures.same.file at c.by_backing-2.ensures.answers)
 
 pub returns-clause-answers : goal.returns-clause-answers
 returns-clause-answers c =
     answer-reserve _ _ _ c.requires _ c.part-part.ensures _ c.payout_amount.ensures.reads _ c.is_present.ensures c.if-not-is_present.false
     _ c.by_backing.ensures.answers c.in_default.is _ c.by_backing.ensures.marks _ c.is_taken.ensures c.if-is_taken.false
-    _ (rw c.by_backing.ensures.same_file at c.by_backing-2.ensures.answers) c.in_default-by_backing.is _ c.by_backing-2.ensures.marks
-    _ (rw (c.by_backing-2.ensures.same_file, c.by_backing.ensures.same_file) at c.by_reserve.ensures.answers)
+    _ (rw c.by_backing.ensures.same.file at c.by_backing-2.ensures.answers) c.in_default-by_backing.is _ c.by_backing-2.ensures.marks
+    _ (rw (c.by_backing-2.ensures.same.file, c.by_backing.ensures.same.file) at c.by_reserve.ensures.answers)

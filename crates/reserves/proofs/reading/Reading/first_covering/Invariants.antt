@@ -4,7 +4,7 @@ use Rattle.fields.specs.Field.{Field, front}
 use Rattle.fields.specs.declared.field.Field.{Field as Found}
 use Rattle.fields.specs.declared.named.Named.{Named}
 use Rattle.guards.specs.Bounding.{bounding_from}
-use Rattle.reserves.specs.Reading.{file_of}
+use Rattle.reserves.specs.Reading.{file_of, Same}
 use Rattle.reserves.specs.Covers.{index_in, first_covering, bytes_left}
 use Rattle.reserves.proofs.reading.Reading.first_covering.Given as goal
 
@@ -19,7 +19,7 @@ unfolding first_covering index_in
 none-left v e = rw e at v.left
 
 abbrev pub invariant-loop-ahead : goal.invariant-loop-ahead
-invariant-loop-ahead l = (file_of l.self ≡ file_of l.fn.self) × Trying (file_of l.fn.self) l.token l.lowerings (front l.amount) l.fn.guard l.ahead l.most
+invariant-loop-ahead l = Same l.fn.self l.self × Trying (file_of l.fn.self) l.token l.lowerings (front l.amount) l.fn.guard l.ahead l.most
 
 abbrev pub decreases-loop-ahead : goal.decreases-loop-ahead
 decreases-loop-ahead l = bytes_left l.ahead

@@ -57,4 +57,4 @@ returns-then-not-contains_inflow-clause-found c =
 pub returns-clause-found : goal.returns-clause-found
 returns-clause-found c =
     let some : c.first_guard.result ≡ Some c.in_ok-guard.guard = grind arith in
-    search (by_guards, rw some at c.first_guard.ensures.found, rw c.list_facts.ensures.same_file at c.first_lowered.ensures.found)
+    search (by_guards, rw some at c.first_guard.ensures.found, rw c.list_facts.ensures.same.file at c.first_lowered.ensures.found)
