@@ -57,7 +57,7 @@ pub fn backing_eq(backing: Amount, s: &[u8]) -> bool
     }
 }
 
-// Whether such a backing bounds the amount. The rule goes into one part at most, so it is a loop. The amount is peeled for
+// Whether such a backing bounds the amount. The rule goes into one part at most, so it is a loop, which counts nothing. The amount is peeled for
 // the comparison only: its wrappers turn wrapping on and off.
 pub fn bounded_by(amount: &[u8], backing: Amount, wrapping: bool) -> bool
     ensures { result ≡ bounded_by_backing (front amount.now) (backing_field backing.entry) wrapping }

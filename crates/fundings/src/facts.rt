@@ -11,8 +11,8 @@ use tokens::number::token_of;
 // How many state fields something is remembered of: a file that passes question 1 has no more, since one takes 11 bytes at least.
 pub const STATE_FIELDS: usize = 2979;
 
-// What stands for a state field whose set of tokens is not worked out yet: no set has this number. An Option would take four bytes of
-// the table for each, in place of two.
+// What stands for a state field whose set of tokens is not worked out yet: no set has this number. An Option of two
+// bytes takes four of the table for each, and one of a number that is not 0 could not hold each number that may be remembered.
 const NOT_YET: u16 = 65535;
 
 // The file, the maps that some call funds, if they are listed already, and the set of tokens of each state field, where it is worked

@@ -66,7 +66,8 @@ fn first_funding(funder: &Funder, calls: &[u16]) -> Option<usize>
         .position(|&call| is_funding_call(funder, usize::from(call)))
 }
 
-// Whether what is listed is the map, whose name has that number. A name is read only where its number is equal.
+// Whether what is listed is the map, whose name has that number. A name is read only where its number is equal (of other names listed so, see
+// is_named of crates/walking).
 fn is_map(file: &[u8], map: &[u8], number: u16, listed: &Funding) -> bool
     requires { number ≡ short_number map.now }
     ensures { result ≡ is_map file.now map.now listed.now }

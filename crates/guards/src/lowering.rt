@@ -86,7 +86,7 @@ fn list_lowering(amount: &[u8], field: &Field, lowerings: &mut Table<Named>)
     }
 }
 
-// Lists what in the entry at a place of the file lowers a state field by the amount.
+// Lists what in the entry at a place of the file lowers a state field by the amount. Any place of a short file will do.
 pub fn list_lowerings<'t>(
     file: &[u8],
     place: usize,

@@ -37,7 +37,7 @@ pub fn is_named(s: &[u8], name: &[u8]) -> bool
     skip(s, 6).starts_with(name) && same_bytes(name, name_of(s))
 }
 
-// Whether a state field of s has this name.
+// Whether a state field of s has this name. It reads like the two searches of raises (zero.rt), of other tags and with other tests.
 pub fn has_state(s: &[u8], name: &[u8]) -> bool
     ensures { result ≡ any (same_bytes name.now) (state_names (fields s.now)) }
 {
@@ -46,8 +46,7 @@ pub fn has_state(s: &[u8], name: &[u8]) -> bool
         .any(|field| is_named(field.part, name))
 }
 
-// The n-th of a row's fields whose tags are from low to high: two numbers as in is_between, since a range of the library is handed on by
-// value and would be made for each field.
+// The n-th of a row's fields whose tags are from low to high: two numbers as in is_between, which is the rules' own test of a tag.
 fn nth_from(row: Fields, low: u8, high: u8, n: usize) -> Option<Field>
     ensures { option_map shown result ≡ slice_get (filter (λ p. between low high (tag p.this)) (left row.entry)) n }
 {

@@ -43,7 +43,7 @@ fn default_passes(name: &[u8], s: &[u8]) -> bool
     !is_present(default) || is_zero(default)
 }
 
-// Whether the default of the state field of that name is zero, if there is one.
+// Whether the default of the state field of that name is zero, if there is one. (Why it is no twin of genesis_is_zero, see there.)
 fn default_is_zero(file: &[u8], name: &[u8]) -> bool
     ensures { result ≡ all is_zero (defaults (fields file.now) name.now) }
 {

@@ -23,7 +23,8 @@ fn has_amount(amount: &[u8], s: &[u8]) -> bool
     expr_eq(peel(part_of(s, 2)), amount)
 }
 
-// Whether one of the calls credits, sets or inserts the amount.
+// Whether one of the calls credits, sets or inserts the amount. Both searches are the library's, by the same filter: a function of both would be
+// handed the test, and promise what `any` and `find` do.
 pub fn is_credited(file: &[u8], amount: &[u8], calls: &[u16]) -> bool
     ensures { result ≡ any (λ call. with_amount is_credit (front amount.now) (front (drop call file.now))) calls.now }
 {

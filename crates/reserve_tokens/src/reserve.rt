@@ -145,6 +145,7 @@ fn after_raises_of_each(entry: &Raising, places: &[u16], numbers: &mut [u16])
     ensures { EachAgreeing entry.now.facts.now.file.now places.now numbers.old (placed_at entry.now.facts.now.file.now entry.now.place) numbers.new }
 {
     let file = entry.facts.file;
+    // By an index, which joins the two tables: what is written through an adapter of both nothing is known of.
     for j in 0..places.len() {
         let name = name_of(skip(file, usize::from(places[j])));
         let before = usize::from(numbers[j]);
@@ -178,9 +179,10 @@ fn start_each(facts: &Facts, places: &[u16], numbers: &mut [u16])
     requires { EachAllAgree facts.now.file.now places.now numbers.old }
     ensures { EachNumber facts.now.file.now places.now numbers.new }
 {
+    // By an index as above.
     for j in 0..places.len() {
         let name = name_of(skip(facts.file, usize::from(places[j])));
-        // So is the number of a token of the file.
+        // The number of a token of a short file is small: try_from would have to answer for what can't be.
         numbers[j] = started(facts.file, name, usize::from(numbers[j])) as u16;
     }
 }

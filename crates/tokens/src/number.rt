@@ -1,6 +1,6 @@
 // SPDX-License-Identifier: Apache-2.0 OR MIT
-// A set of tokens as one number, and the set that an entry names. It is a number and no enum, since it is the rules' own (Numbers.antt),
-// two sets are mostly compared by it, and two bytes of it are remembered of each of 2,979 state fields.
+// A set of tokens as one number, and the set that an entry names. It is a number and no enum, since two
+// sets are mostly compared by it, and two bytes of it are remembered of each of 2,979 state fields.
 ghost use Rattle.std.specs.Prelude.{◌≡◌, ◌*◌, ◌≤◌, ◌<◌, length, take, drop};
 ghost use Rattle.laws.specs.Texts.{same_bytes};
 ghost use Rattle.walking.specs.Table.{placed_at};
