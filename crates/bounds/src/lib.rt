@@ -21,8 +21,8 @@ pub enum Amount<'a> {
     OfParameter(&'a [u8]),
 }
 
-// Whether the rule goes into the first part of a field with that tag. Wrapping is on or off in the rule, too, and C hands it on as a
-// Bool.
+// Whether the rule goes into the first part of a field with that tag. Wrapping is on or off in the rule, too, and C hands it on as
+// a Bool.
 #[tactic(auto, unfolding(crate::specs::Bounds::goes_left))]
 fn goes_left(tag: u8, wrapping: bool) -> bool
     ensures { result ≡ goes_left tag wrapping }
@@ -57,8 +57,8 @@ pub fn backing_eq(backing: Amount, s: &[u8]) -> bool
     }
 }
 
-// Whether such a backing bounds the amount. The rule goes into one part at most, so it is a loop, which counts nothing. The amount is peeled for
-// the comparison only: its wrappers turn wrapping on and off.
+// Whether such a backing bounds the amount. The rule goes into one part at most, so it is a loop, which counts nothing. The amount
+// is peeled for the comparison only: its wrappers turn wrapping on and off.
 pub fn bounded_by(amount: &[u8], backing: Amount, wrapping: bool) -> bool
     ensures { result ≡ bounded_by_backing (front amount.now) (backing_field backing.entry) wrapping }
 {

@@ -27,8 +27,8 @@ fn is_comparison(tag: u8) -> bool
     matches!(tag, EQ..=GE)
 }
 
-// Lists what an expression gives where it is required. That the table's count stays a number of the code is a fact of the table and of
-// what is still to be gone through, which is another field at each call: here and below each says it of its own.
+// Lists what an expression gives where it is required. That the table's count stays a number of the code is a fact of the table and
+// of what is still to be gone through, which is another field at each call: here and below each says it of its own.
 #[cycle(split_negate)]
 fn split(field: Field, conditions: &mut Table<u16>)
     requires { 3 * conditions.old.count + length field.part.now < 3 * 2 ^ 64 }
@@ -70,8 +70,8 @@ fn negate(field: Field, conditions: &mut Table<u16>)
     }
 }
 
-// What an expression gives where it is denied or required. The definitions choose by the same yes or no, which a clause's tag gives: an enum
-// of two would say no more.
+// What an expression gives where it is denied or required. The definitions choose by the same yes or no, which a clause's tag
+// gives: an enum of two would say no more.
 #[cycle(split_negate)]
 fn list_one(field: Field, denied: bool, conditions: &mut Table<u16>)
     requires { 3 * conditions.old.count + length field.part.now < 3 * 2 ^ 64 }
@@ -95,8 +95,8 @@ fn list_each(parts: Fields, denied: bool, conditions: &mut Table<u16>)
     }
 }
 
-// Lists the conditions of a clause or a guard, which stands at a place of its entry, as far as the table has room. A number is the place
-// of the condition's expression, counted from the entry's own, with 32,768 more if the condition is flipped.
+// Lists the conditions of a clause or a guard, which stands at a place of its entry, as far as the table has room. A number is the
+// place of the condition's expression, counted from the entry's own, with 32,768 more if the condition is flipped.
 pub fn list_conditions<'t>(field: Field, table: &'t mut [u16]) -> Table<'t, u16>
     ensures same_reference { result.items.ghost_name ≡ table.entry.ghost_name }
     ensures listed { Listed (marks (conditions_of (shown field.entry))) table.old 0 result.items.now result.count }

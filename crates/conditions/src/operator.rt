@@ -21,8 +21,8 @@ fn opposite_of(tag: u8) -> u8
     }
 }
 
-// The tag that a condition's expression is read with. That a condition is flipped is a yes or no of the rules, and a bit of its number in a
-// table.
+// The tag that a condition's expression is read with. That a condition is flipped is a yes or no of the rules, and a bit of its
+// number in a table.
 pub fn operator_of(tag: u8, flipped: bool) -> u8
     ensures { result ≡ cond flipped (opposite tag) tag }
 {

@@ -1,7 +1,7 @@
 // SPDX-License-Identifier: Apache-2.0 OR MIT
 // An entry by value: its place in the file; how many caller debits, backings and payouts there are; the places of its backings,
-// debits first, and of its payouts. One more payout than 64 finds room: question 10 tells its place. The counts go on where there is no room,
-// as questions 10 and 11 ask, so that they stand beside the arrays and are no lengths of them.
+// debits first, and of its payouts. One more payout than 64 finds room: question 10 tells its place. The counts go on where there
+// is no room, as questions 10 and 11 ask, so that they stand beside the arrays and are no lengths of them.
 ghost use Rattle.std.specs.Prelude.{◌≡◌};
 ghost use Rattle.entries.specs.Entered.{Lent, Read};
 

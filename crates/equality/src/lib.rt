@@ -1,6 +1,6 @@
 // SPDX-License-Identifier: Apache-2.0 OR MIT
-// Equality of expressions. An expression is the part of the file that starts with it. What is compared stands side by side, since nothing
-// but the question is common to both.
+// Equality of expressions. An expression is the part of the file that starts with it. What is compared stands side by side, since
+// nothing but the question is common to both.
 #![tactic(auto)]
 
 ghost use Rattle.std.specs.Prelude.{◌≡◌};

@@ -1,5 +1,5 @@
-// The field at the front of a part of the file. An expression is handed on as the part of the file that starts with it, and a number beside it
-// says which part of it is read: callers have the two from different places.
+// The field at the front of a part of the file. An expression is handed on as the part of the file that starts with it, and a
+// number beside it says which part of it is read: callers have the two from different places.
 ghost use Rattle.std.specs.Prelude.{◌≡◌, ◌+◌, ◌*◌, ◌<◌, ◌-◌, take, drop, length};
 ghost use Rattle.fields.specs.Field.{tag_of, length_of, whole, content, after, fields, front, tag, text, parts, part, nth, sizes, place_of};
 
@@ -13,7 +13,7 @@ fn two_bytes(high: u8, low: u8) -> usize
     usize::from(u16::from_be_bytes([high, low]))
 }
 
-// The tag at the front of s; 0 where s is empty.
+// The tag at the front of s; 0, which is no tag, where s is empty: so the rules read it, and no tag is compared with 0.
 pub fn front_tag(s: &[u8]) -> u8
     ensures { result ≡ tag_of s.now }
 {
@@ -51,7 +51,7 @@ pub fn after_front(s: &[u8]) -> &[u8]
     skip(s, 3 + length_of(s))
 }
 
-// The tag of the whole field at the front of s; 0 where there is none.
+// The tag of the whole field at the front of s; 0, which is no tag, where there is none, as the rules define it.
 pub fn tag_of(s: &[u8]) -> u8
     ensures { result ≡ tag (front s.now) }
 {

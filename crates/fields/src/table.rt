@@ -1,5 +1,5 @@
-// A table that a caller lends, and how many items are listed in it. The count goes on where there is no room, since questions 10 and 11
-// speak of how many there are: neither a slice nor an ArrayVec would tell that.
+// A table that a caller lends, and how many items are listed in it. The count goes on where there is no room, since questions 10
+// and 11 speak of how many there are: neither a slice nor an ArrayVec would tell that.
 ghost use Rattle.std.specs.Prelude.{◌≡◌, [], ◌∷◌, ◌+◌, ◌^◌, ◌<◌, take};
 ghost use Rattle.fields.specs.Lists.{Lists};
 

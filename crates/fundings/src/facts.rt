@@ -11,12 +11,12 @@ use tokens::number::token_of;
 // How many state fields something is remembered of: a file that passes question 1 has no more, since one takes 11 bytes at least.
 pub const STATE_FIELDS: usize = 2979;
 
-// What stands for a state field whose set of tokens is not worked out yet: no set has this number. An Option of two
-// bytes takes four of the table for each, and one of a number that is not 0 could not hold each number that may be remembered.
+// What stands for a state field whose set of tokens is not worked out yet: no set has this number. An Option of two bytes takes
+// four of the table for each, and one of a number that is not 0 could not hold each number that may be remembered.
 const NOT_YET: u16 = 65535;
 
-// The file, the maps that some call funds, if they are listed already, and the set of tokens of each state field, where it is worked
-// out. An Option of the maps would be written twice more and is measurably slower, so a flag says whether they are listed.
+// The file, the maps that some call funds, if they are listed already, and the set of tokens of each state field, where it is
+// worked out. An Option of the maps would be written twice more and is measurably slower, so a flag says whether they are listed.
 #[derive(Drop)]
 pub struct Facts<'a> {
     pub file: &'a [u8],

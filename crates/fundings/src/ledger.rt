@@ -66,8 +66,8 @@ fn first_funding(funder: &Funder, calls: &[u16]) -> Option<usize>
         .position(|&call| is_funding_call(funder, usize::from(call)))
 }
 
-// Whether what is listed is the map, whose name has that number. A name is read only where its number is equal (of other names listed so, see
-// is_named of crates/walking).
+// Whether what is listed is the map, whose name has that number. A name is read only where its number is equal (of other names
+// listed so, see is_named of crates/walking).
 fn is_map(file: &[u8], map: &[u8], number: u16, listed: &Funding) -> bool
     requires { number ≡ short_number map.now }
     ensures { result ≡ is_map file.now map.now listed.now }
@@ -209,8 +209,8 @@ fn list_entry(
     list_calls(&funder, named, skip(calls.listed(), first), maps)
 }
 
-// Lists all maps of the file that some call funds, in place of what was listed before; an error says that one found no room. There is
-// room for those of every file that passes the questions. The scratch table has a number for each three bytes of the file.
+// Lists all maps of the file that some call funds, in place of what was listed before; an error says that one found no room. There
+// is room for those of every file that passes the questions. The scratch table has a number for each three bytes of the file.
 pub fn list_fundings(
     file: &[u8],
     maps: &mut Fundings,

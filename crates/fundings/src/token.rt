@@ -27,8 +27,8 @@ fn joined_with(entry: &EntryPlace, map: &[u8], found: usize, table: &mut [u16]) 
     join(entry.file, found, tokens_number(entry, table))
 }
 
-// The set of the tokens named by the entries that fund the map. The search ends where two differ. It takes the file alone, and the facts
-// take it: so it asks that the file is short.
+// The set of the tokens named by the entries that fund the map. The search ends where two differ. It takes the file alone, and the
+// facts take it: so it asks that the file is short.
 pub fn ledger_funding_number(file: &[u8], map: &[u8]) -> usize
     requires { length file.now ≤ 32768 }
     ensures reads { result ≡ funding_number file.now map.now }

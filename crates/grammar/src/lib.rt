@@ -114,8 +114,8 @@ pub fn slots_of(tag: u8) -> Slots
 }
 
 impl Slots {
-    // Question 3: the slots that are left behind a part with this tag, if it may stand here. Nothing is counted: slots are left out from the
-    // front while they may stay empty.
+    // Question 3: the slots that are left behind a part with this tag, if it may stand here. Nothing is counted: slots are left out
+    // from the front while they may stay empty.
     #[tactic(auto, unfolding(crate::specs::Grammar::advance))]
     pub fn advance(self, tag: u8) -> Option<Slots>
         ensures { option_map slot_list result ≡ advance (slot_list self) tag }

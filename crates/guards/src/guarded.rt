@@ -1,6 +1,6 @@
 // SPDX-License-Identifier: Apache-2.0 OR MIT
-// A guard that says r >, >= amount or amount <, <= r. A guard's expression is the part of the file that starts with it. The amount stands
-// beside what is compared with it, in which it need not occur.
+// A guard that says r >, >= amount or amount <, <= r. A guard's expression is the part of the file that starts with it. The amount
+// stands beside what is compared with it, in which it need not occur.
 ghost use Rattle.std.specs.Prelude.{◌≡◌, ◌≤◌, [], length, IfSome, MatchOption};
 ghost use Rattle.fields.specs.Field.{fields, front, nothing};
 ghost use Rattle.walking.specs.Walking.{peel, ident};

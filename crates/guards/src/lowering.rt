@@ -33,8 +33,8 @@ pub fn contains_wrapping(s: &[u8]) -> bool
     1 <= list_expression(s, WRAPPING, &mut table).count
 }
 
-// What the statement at the front of s lowers the state field of that name by; no field where it does not, as the rules define it: no
-// amount equals it.
+// What the statement at the front of s lowers the state field of that name by; no field where it does not, as the rules define it:
+// no amount equals it.
 #[tactic(auto, unfolding(crate::specs::Guards::lowered_by))]
 pub fn lowered_by<'a>(name: &[u8], s: &'a [u8]) -> &'a [u8]
     ensures { front result.now ≡ lowered_by name.now (front s.now) }
@@ -106,8 +106,8 @@ pub fn list_lowerings<'t>(
     lowerings
 }
 
-// Whether what is listed assigns to the name, whose number is given. A name is read only where the number is equal (of other names listed so,
-// see is_named of crates/walking).
+// Whether what is listed assigns to the name, whose number is given. A name is read only where the number is equal (of other names
+// listed so, see is_named of crates/walking).
 #[tactic(auto, unfolding(crate::specs::Lowerings::lowers_at))]
 fn has_target(file: &[u8], lowering: &Named, number: u16, name: &[u8]) -> bool
     requires { number ≡ short_number name.now }

@@ -1,6 +1,6 @@
 // The model that a file carries: state fields by their names, and all by numbers, counted from 0 in file order. An answer is a
-// field with its place: of the file, or of the entry's parts counted from the entry's own place. What is read stands beside the name or the
-// number that is looked for in it: callers have the two from different places.
+// field with its place: of the file, or of the entry's parts counted from the entry's own place. What is read stands beside the
+// name or the number that is looked for in it: callers have the two from different places.
 #![tactic(auto)]
 
 ghost use Rattle.std.specs.Prelude.{◌≡◌, filter, get_or};
@@ -28,8 +28,8 @@ pub fn name_of(s: &[u8]) -> &[u8]
     text_of(part_of(s, 0))
 }
 
-// Whether the state field, entry or parameter at the front of s has this name. It would stand behind two heads, and most fields have
-// another there: that takes less time than to read the name. It is asked of each field, and so it is compiled into the loops.
+// Whether the state field, entry or parameter at the front of s has this name. It would stand behind two heads, and most fields
+// have another there: that takes less time than to read the name. It is asked of each field, and so it is compiled into the loops.
 #[inline(always)]
 pub fn is_named(s: &[u8], name: &[u8]) -> bool
     ensures { result ≡ same_bytes name.now (name_of (front s.now)) }

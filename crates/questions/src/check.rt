@@ -44,9 +44,9 @@ fn check_field(tag: u8, content: &[u8], place: usize, depth: usize) -> Answer
     })
 }
 
-// Questions 2 and 3 of each field in a content that stands at start, with all that is inside it, and 6 behind the last: its
-// place is the holder's, the field whose content this is. The cursor says at each step what stands there, as in the paper, so that the loop
-// goes on until it says that nothing does.
+// Questions 2 and 3 of each field in a content that stands at start, with all that is inside it, and 6 behind the last: its place
+// is the holder's, the field whose content this is. The cursor says at each step what stands there, as in the paper, so that the
+// loop goes on until it says that nothing does.
 #[cycle(check_field_check_fields)]
 fn check_fields(outer: u8, content: &[u8], holder: usize, start: usize, depth: usize) -> Answer
     requires { Room content.now start depth }

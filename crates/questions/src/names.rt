@@ -42,7 +42,8 @@ const FIRST_BASE: usize = 1640531527;
 // base a file of 2,500 names has about a dozen; for each, all names before are looked at.
 const FEW_ALARMS: usize = 24;
 
-// What a place holds after one more note; 0 is no note.
+// What a place holds after one more note; 0 is no note. An enum of none, a note and several would take two bytes of a place, and a table
+// of twice the length is longer cleared.
 #[tactic(auto, unfolding(crate::specs::Noted::joined_note))]
 fn joined_note(held: u8, note: u8) -> u8
     ensures { result ≡ joined_note held note }

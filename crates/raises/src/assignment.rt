@@ -1,5 +1,6 @@
 // SPDX-License-Identifier: Apache-2.0 OR MIT
-// The statements that set, add to or subtract from a state field. The field's name stands beside the statement, which knows nothing of it.
+// The statements that set, add to or subtract from a state field. The field's name stands beside the statement, which knows nothing
+// of it.
 ghost use Rattle.std.specs.Prelude.{◌≡◌};
 ghost use Rattle.fields.specs.Field.{front};
 ghost use Rattle.raises.specs.Raises.{assigns, value, sets_from};
@@ -10,8 +11,8 @@ use tags::{SET, is_assign};
 use walking::peel::peel;
 use walking::shape::ident;
 
-// Whether the statement at the front of s sets, adds to or subtracts from the state field of that name. It is asked of each statement, and
-// so it is compiled into the loops.
+// Whether the statement at the front of s sets, adds to or subtracts from the state field of that name. It is asked of each
+// statement, and so it is compiled into the loops.
 #[inline(always)]
 #[tactic(auto, unfolding(crate::specs::Raises::assigns))]
 pub fn assigns(name: &[u8], s: &[u8]) -> bool

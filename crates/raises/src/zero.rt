@@ -61,8 +61,8 @@ fn genesis_passes(name: &[u8], s: &[u8]) -> bool
     !assigns(name, statement) || is_zero(part_of(statement, 1))
 }
 
-// Whether the value of every genesis assignment to the state field is zero. It reads like default_is_zero, with another tag and another
-// test: one function would be handed both, and its promise would be that of `filter` and `all` themselves.
+// Whether the value of every genesis assignment to the state field is zero. It reads like default_is_zero, with another tag and
+// another test: one function would be handed both, and its promise would be that of `filter` and `all` themselves.
 fn genesis_is_zero(file: &[u8], name: &[u8]) -> bool
     ensures { result ≡ all is_zero (genesis_values (fields file.now) name.now) }
 {

@@ -35,8 +35,8 @@ fn has_listing(file: &[u8], expected: &[u8]) -> bool {
     &buffer[..length] == expected
 }
 
-// Whether a record whose file has a length is a file with its listing, and what stands behind it. One that is cut off is not, nor is
-// a file that there is no room for, of which only the length is read.
+// Whether a record whose file has a length is a file with its listing, and what stands behind it. One that is cut off is not, nor
+// is a file that there is no room for, of which only the length is read.
 fn replay_record(length: usize, s: &[u8]) -> (bool, &[u8]) {
     if MOST_READ < length {
         return (false, s);

@@ -15,16 +15,16 @@ use tokens::inflow::is_credit;
 use walking::peel::peel;
 use walking::shape::is_debit;
 
-// Whether the second argument, peeled, of the call at the front of s is the amount. This is asked before the kind of the call: it takes
-// less time than to read the shape of a call, and few calls have it.
+// Whether the second argument, peeled, of the call at the front of s is the amount. This is asked before the kind of the call: it
+// takes less time than to read the shape of a call, and few calls have it.
 fn has_amount(amount: &[u8], s: &[u8]) -> bool
     ensures { result ≡ expr_eq (peel (part 2 (front s.now))) (front amount.now) }
 {
     expr_eq(peel(part_of(s, 2)), amount)
 }
 
-// Whether one of the calls credits, sets or inserts the amount. Both searches are the library's, by the same filter: a function of both would be
-// handed the test, and promise what `any` and `find` do.
+// Whether one of the calls credits, sets or inserts the amount. Both searches are the library's, by the same filter: a function of
+// both would be handed the test, and promise what `any` and `find` do.
 pub fn is_credited(file: &[u8], amount: &[u8], calls: &[u16]) -> bool
     ensures { result ≡ any (λ call. with_amount is_credit (front amount.now) (front (drop call file.now))) calls.now }
 {

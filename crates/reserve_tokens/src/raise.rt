@@ -22,8 +22,8 @@ use tokens::number::token_of;
 use tokens::set::tokens_differ;
 use walking::shape::receiver;
 
-// An entry that raises a state field, of the file that the facts are of: its place, the number of the token that its only such guard
-// names, the places of the calls of its body, and its asset parameters.
+// An entry that raises a state field, of the file that the facts are of: its place, the number of the token that its only such
+// guard names, the places of the calls of its body, and its asset parameters.
 #[derive(Drop)]
 pub struct Raising<'a> {
     pub facts: &'a Facts<'a>,

@@ -29,7 +29,8 @@ use walking::walk::list_body;
 pub const FIELDS: usize = 64;
 
 // What the raises of the state field of that name in an entry agree on with those before: the number of their token, 1 before the
-// first raise and 0 where one bars the field.
+// first raise and 0 where one bars the field. Both are no token's number, and a table of two bytes for each field holds what they
+// agree on.
 fn after_raises(entry: &Raising, name: &[u8], before: usize) -> usize
     requires { Agreed entry.now.facts.now.file.now before }
     ensures { Agreeing entry.now.facts.now.file.now before (numbers_in entry.now.facts.now.file.now name.now (placed_at entry.now.facts.now.file.now entry.now.place)) result }
@@ -51,9 +52,10 @@ fn after_raises(entry: &Raising, name: &[u8], before: usize) -> usize
     agreed
 }
 
-// What is the same for all raises of the entry at a place of the file. A scratch table serves for the places of its calls, and another
-// for its asset parameters. The facts and the tables are no struct: list_body and list_assets take a table alone, for as long as what
-// is listed in it lives, so a struct would be taken apart here and made anew for each entry, and the clause is plainer.
+// What is the same for all raises of the entry at a place of the file. A scratch table serves for the places of its calls, and
+// another for its asset parameters. The facts and the tables are no struct: list_body and list_assets take a table alone, for as
+// long as what is listed in it lives, so a struct would be taken apart here and made anew for each entry, and the clause is
+// plainer.
 fn list_raising<'a>(
     facts: &'a Facts<'a>,
     place: usize,
@@ -73,7 +75,8 @@ fn list_raising<'a>(
     }
 }
 
-// What raises agree on with those of the entry at a place of the file. The scratch table has a number for each three bytes of the file.
+// What raises agree on with those of the entry at a place of the file. The scratch table has a number for each three bytes of the
+// file.
 fn after_entry(
     facts: &Facts,
     place: usize,
@@ -112,8 +115,8 @@ fn raises_number(facts: &Facts, name: &[u8], scratch: &mut [u16]) -> usize
     agreed
 }
 
-// The number of the token that the state field of that name holds, by what all its raises agree on: it starts at zero, and they agree on
-// one token; else 1. Most fields of a file with many have no raise, and then the start is not asked.
+// The number of the token that the state field of that name holds, by what all its raises agree on: it starts at zero, and they
+// agree on one token; else 1. Most fields of a file with many have no raise, and then the start is not asked.
 fn started(file: &[u8], name: &[u8], agreed: usize) -> usize
     requires { AllAgree file.now name.now agreed }
     ensures { result ≡ reserve_number file.now name.now }
@@ -127,8 +130,8 @@ fn started(file: &[u8], name: &[u8], agreed: usize) -> usize
     agreed
 }
 
-// The same, by all entries. It means the same for the whole file. A name and the table stand side by side in three functions that call
-// one another, and a struct of both would be made for that one call.
+// The same, by all entries. It means the same for the whole file. A name and the table stand side by side in three functions that
+// call one another, and a struct of both would be made for that one call.
 pub fn reserve_number(facts: &Facts, name: &[u8], scratch: &mut [u16]) -> usize
     requires { length facts.now.file.now ≤ 3 * length scratch.old }
     ensures reads { result ≡ reserve_number facts.now.file.now name.now }
@@ -138,8 +141,8 @@ pub fn reserve_number(facts: &Facts, name: &[u8], scratch: &mut [u16]) -> usize
     started(facts.file, name, raises_number(facts, name, scratch))
 }
 
-// What the raises of each state field at the places of a table agree on with those of an entry, beside what they agreed on before. The
-// places and the numbers are no struct: the places are the caller's and stay, and the numbers are what is handed out.
+// What the raises of each state field at the places of a table agree on with those of an entry, beside what they agreed on before.
+// The places and the numbers are no struct: the places are the caller's and stay, and the numbers are what is handed out.
 fn after_raises_of_each(entry: &Raising, places: &[u16], numbers: &mut [u16])
     requires { EachAgreed entry.now.facts.now.file.now places.now numbers.old }
     ensures { EachAgreeing entry.now.facts.now.file.now places.now numbers.old (placed_at entry.now.facts.now.file.now entry.now.place) numbers.new }

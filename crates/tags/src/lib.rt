@@ -159,8 +159,8 @@ pub fn is_wrapper(tag: u8) -> bool
     matches!(tag, CHECKED..=WRAPPING)
 }
 
-// 01 to 06, 10 to 16, 38 to 3D, 40 to 4D: the content is fields. As one pattern of four ranges it takes the comparison of expressions
-// a sixth more instructions.
+// 01 to 06, 10 to 16, 38 to 3D, 40 to 4D: the content is fields. As one pattern of four ranges it takes the comparison of
+// expressions a sixth more instructions.
 #[tactic(auto, unfolding(crate::specs::Tag::composite))]
 pub fn is_composite(tag: u8) -> bool
     ensures { result ≡ composite tag }

@@ -1,6 +1,6 @@
 // SPDX-License-Identifier: Apache-2.0 OR MIT
-// A set of tokens as one number, and the set that an entry names. It is a number and no enum, since two
-// sets are mostly compared by it, and two bytes of it are remembered of each of 2,979 state fields.
+// A set of tokens as one number, and the set that an entry names. It is a number and no enum, since two sets are mostly compared by
+// it, and two bytes of it are remembered of each of 2,979 state fields.
 ghost use Rattle.std.specs.Prelude.{◌≡◌, ◌*◌, ◌≤◌, ◌<◌, length, take, drop};
 ghost use Rattle.laws.specs.Texts.{same_bytes};
 ghost use Rattle.walking.specs.Table.{placed_at};
@@ -67,7 +67,8 @@ pub fn condition_number(entry: &[u8], place: usize, mark: usize) -> usize
 
 // The set found before, with what the conditions of an entry name, of those clauses or guards whose tags are from low to high.
 // Condition by condition, and in each part by part, the search ends where two tokens differ. The table is no field of the entry's
-// place: it is lent on to list_conditions, which takes any, so a struct of both would only be taken apart, and the clause is plainer.
+// place: it is lent on to list_conditions, which takes any, so a struct of both would only be taken apart, and the clause is
+// plainer.
 fn joined_from(entry: &EntryPlace, low: u8, high: u8, before: usize, table: &mut [u16]) -> usize
     requires { length entry.now.file.now ≤ 3 * length table.old }
     ensures { result ≡ joined_from entry.now.file.now low high (placed_at entry.now.file.now entry.now.place) before }
@@ -90,8 +91,8 @@ fn joined_from(entry: &EntryPlace, low: u8, high: u8, before: usize, table: &mut
     found
 }
 
-// The set of tokens that an entry names: what its clauses name, and then its guards. The lent table has a number for each three bytes
-// of the file, and serves for the parts of a condition.
+// The set of tokens that an entry names: what its clauses name, and then its guards. The lent table has a number for each three
+// bytes of the file, and serves for the parts of a condition.
 pub fn tokens_number(entry: &EntryPlace, table: &mut [u16]) -> usize
     requires { length entry.now.file.now ≤ 3 * length table.old }
     ensures reads { result ≡ tokens_number entry.now.file.now (placed_at entry.now.file.now entry.now.place) }

@@ -19,8 +19,8 @@ fn node_at(s: &[u8], tag: u8) -> Option<usize>
     None
 }
 
-// The name p where `p.amount` stands at the front of s. Anything else gives no backer and leaves at once: no bytes, as the rules define
-// it, since no parameter has a name without bytes.
+// The name p where `p.amount` stands at the front of s. Anything else gives no backer and leaves at once: no bytes, as the rules
+// define it, since no parameter has a name without bytes.
 pub fn asset_amount_backer(s: &[u8]) -> &[u8]
     ensures { result.now ≡ asset_amount_backer (front s.now) }
 {

@@ -41,8 +41,8 @@ pub fn has_asset_parameter(s: &[u8], name: &[u8]) -> bool
         .any(|f| same_bytes(name, name_of(f.part)))
 }
 
-// Lists a field where it is an asset parameter. A field stands anywhere, so that its place is small is a clause of what lists it in two
-// bytes.
+// Lists a field where it is an asset parameter. A field stands anywhere, so that its place is small is a clause of what lists it in
+// two bytes.
 fn list_asset(field: &Field, assets: &mut Table<Named>)
     requires place { field.now.place < 65536 }
     requires room { assets.old.count + 1 < 2 ^ 64 }
@@ -74,9 +74,9 @@ pub fn list_assets<'t>(s: &[u8], table: &'t mut [Named]) -> Table<'t, Named>
     assets
 }
 
-// Whether what is listed of an asset parameter of the entry at the front of s has that name. A name is read only where its number is
-// equal. What else is listed by such numbers, funded maps and lowerings, has its name elsewhere: one function of all would be handed how to
-// read it, and be no shorter.
+// Whether what is listed of an asset parameter of the entry at the front of s has that name. A name is read only where its number
+// is equal. What else is listed by such numbers, funded maps and lowerings, has its name elsewhere: one function of all would be
+// handed how to read it, and be no shorter.
 fn is_named(s: &[u8], asset: &Named, number: u16, name: &[u8]) -> bool
     requires { number ≡ short_number name.now }
     ensures { result ≡ named_by s.now name.now asset.now }

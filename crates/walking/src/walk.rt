@@ -31,8 +31,8 @@ fn note_place(field: &Field, tag: u8, places: &mut Table<u16>)
     }
 }
 
-// Lists the expressions in a field, itself before its parts. Most have no parts, and then nothing is called. The tag stays and the table
-// changes, here and below: a struct of both would have to say at each call that the tag is the same.
+// Lists the expressions in a field, itself before its parts. Most have no parts, and then nothing is called. The tag stays and the
+// table changes, here and below: a struct of both would have to say at each call that the tag is the same.
 #[cycle(visit_expression_visit_parts)]
 fn visit_expression(field: Field, tag: u8, places: &mut Table<u16>)
     requires { 3 * places.old.count + length field.part.now < 3 * 2 ^ 64 }
@@ -92,8 +92,9 @@ pub fn list_expression<'t>(s: &[u8], tag: u8, table: &'t mut [u16]) -> Table<'t,
     places
 }
 
-// Lists the places, in the file, of the expressions of a tag in the body of the entry that stands at a place of it. The file and the place
-// stand side by side where any place will do; where it is an entry's in a short file, EntryPlace of crates/tokens says so.
+// Lists the places, in the file, of the expressions of a tag in the body of the entry that stands at a place of it. The file and
+// the place stand side by side where any place will do; where it is an entry's in a short file, EntryPlace of crates/tokens says
+// so.
 pub fn list_body<'t>(file: &[u8], place: usize, tag: u8, table: &'t mut [u16]) -> Table<'t, u16>
     ensures same_reference { result.items.ghost_name ≡ table.entry.ghost_name }
     ensures listed { Listed (places_of tag (body_exprs (placed_at file.now place))) table.old 0 result.items.now result.count }
