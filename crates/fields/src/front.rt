@@ -13,7 +13,7 @@ fn two_bytes(high: u8, low: u8) -> usize
     usize::from(u16::from_be_bytes([high, low]))
 }
 
-// The tag at the front of s; 0, which is no tag, where s is empty: so the rules read it, and no tag is compared with 0.
+// The tag at the front of s; 0, which is no tag, where s is empty, as the rules read it.
 pub fn front_tag(s: &[u8]) -> u8
     ensures { result ≡ tag_of s.now }
 {
