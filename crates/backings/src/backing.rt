@@ -2,7 +2,7 @@
 // The backings of an entry by number: backing i is debit i, and behind the debits an asset parameter. It stands in the file at
 // the i-th place of a table, the call of a debit and the parameter itself. The file or its reading, the entry and the number stand side by
 // side: an entry is lent for all its backings, and a reading goes on to the next entry.
-ghost use Rattle.std.specs.Prelude.{◌≡◌, ◌≤◌, length, get_or, take, drop};
+ghost use Rattle.std.specs.Prelude.{◌≡◌, ◌≤◌, length, take, drop};
 ghost use Rattle.fields.specs.Field.{fields, front, part};
 ghost use Rattle.walking.specs.Walking.{peel, receiver};
 ghost use Rattle.walking.specs.Table.{placed_at};
@@ -19,10 +19,9 @@ ghost use Rattle.backings.specs.Tables.{Admitted, debit_at, amount_in, token_at}
 
 use bounds::Amount;
 use entries::entry::Entry;
-use fields::bytes::skip;
 use fields::front::part_of;
 use fundings::facts::Facts;
-use guards::payout::payout_token;
+use guards::payout::{part_at, payout_token};
 use model::name_of;
 use reserves::reading::Reading;
 use tokens::entry::entry_at;
@@ -36,13 +35,6 @@ fn debit_amount(s: &[u8]) -> &[u8]
     ensures { front result.now ≡ peel (part 2 (front s.now)) }
 {
     peel(part_of(s, 2))
-}
-
-// The part of the file that starts at the i-th place of a table, as of an entry's backings or payouts.
-pub fn part_at<'a>(file: &'a [u8], places: &[u16], i: usize) -> &'a [u8]
-    ensures { result.now ≡ drop (get_or places.now i 0) file.now }
-{
-    skip(file, usize::from(places.get(i).copied().unwrap_or(0)))
 }
 
 // The amount of backing number i of an entry, the debits first: that of a debit, or of a parameter.

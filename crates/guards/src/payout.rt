@@ -1,10 +1,10 @@
 // SPDX-License-Identifier: Apache-2.0 OR MIT
 // A payout's token and amount. The payouts that ask for a state field stand in the file at the places of a table; the number beside a table
 // is the payout's own, and not how long the table is.
-ghost use Rattle.std.specs.Prelude.{◌≡◌, ◌≤◌, length};
+ghost use Rattle.std.specs.Prelude.{◌≡◌, ◌≤◌, length, get_or, drop};
 ghost use Rattle.fields.specs.Field.{front};
 ghost use Rattle.guards.specs.Payouts.{payout_token, payout_amount};
-ghost use Rattle.guards.specs.Asked.{asked_token, paid_at, asked_amount};
+ghost use Rattle.guards.specs.Asked.{asked_token, asked_amount};
 
 use fields::bytes::{same_bytes, skip};
 use fields::front::part_of;
@@ -33,28 +33,26 @@ pub fn payout_amount(s: &[u8]) -> &[u8]
     value
 }
 
+// The part of the file that starts at the i-th place of a table, as of an entry's backings or payouts.
+pub fn part_at<'a>(file: &'a [u8], places: &[u16], i: usize) -> &'a [u8]
+    ensures { result.now ≡ drop (get_or places.now i 0) file.now }
+{
+    skip(file, usize::from(places.get(i).copied().unwrap_or(0)))
+}
+
 // The token that the k-th payout of the table asks for.
 #[tactic(auto, unfolding(crate::specs::Asked::asked_token))]
 pub fn asked_token<'a>(file: &'a [u8], asked: &[u16], k: usize) -> &'a [u8]
     ensures { result.now ≡ asked_token file.now asked.now k }
 {
-    payout_token(skip(file, usize::from(asked.get(k).copied().unwrap_or(0))))
+    payout_token(part_at(file, asked, k))
 }
 
-// The amount, peeled, of the payout at a place of the file.
-#[tactic(auto, unfolding(crate::specs::Asked::paid_at))]
-pub fn amount_paid(file: &[u8], place: usize) -> &[u8]
-    ensures reads { front result.now ≡ paid_at file.now place }
-    ensures within { length result.now ≤ length file.now }
-{
-    peel(payout_amount(skip(file, place)))
-}
-
-// That of the k-th payout of the table.
-#[tactic(auto, unfolding(crate::specs::Asked::asked_amount))]
+// The amount, peeled, of the k-th payout of the table.
+#[tactic(auto, unfolding(crate::specs::Asked::asked_amount, crate::specs::Asked::paid_at))]
 pub fn asked_amount<'a>(file: &'a [u8], asked: &[u16], k: usize) -> &'a [u8]
     ensures reads { front result.now ≡ asked_amount file.now asked.now k }
     ensures within { length result.now ≤ length file.now }
 {
-    amount_paid(file, usize::from(asked.get(k).copied().unwrap_or(0)))
+    peel(payout_amount(part_at(file, asked, k)))
 }

@@ -2,8 +2,8 @@
 // A payout of an entry.
 ghost use Rattle.std.specs.Prelude.{◌<◌};
 
-use backings::backing::part_at;
 use entries::entry::Entry;
+use guards::payout::part_at;
 
 // The k-th one.
 #[derive(Clone, Copy)]

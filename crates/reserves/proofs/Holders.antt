@@ -1,8 +1,8 @@
 -- The state fields that guards name, by their numbers: the first that holds the token is the first that covers.
-use Rattle.std.proofs.Common.{ℕ, zero, suc, ◌+◌, ◌-◌, ◌≤◌, ◌<◌, ◌≡◌, refl, sym, ap, ◌∙◌, Bool, true, false, not, cond, ◌&&◌, List, [], ◌∷◌, map, arith}
-use Rattle.std.proofs.Common.{get_or, set, length, length-set, get_or-set_other, eqb, ne_eqb, drop, drop_of_length-le}
+use Rattle.std.proofs.Common.{ℕ, zero, suc, ◌+◌, ◌≤◌, ◌<◌, ◌≡◌, refl, sym, ap, ◌∙◌, Bool, true, false, cond, ◌&&◌, List, [], ◌∷◌, map, arith}
+use Rattle.std.proofs.Common.{◌++◌, get_or, length, length-append, drop, drop_of_length-le}
 use Rattle.std.proofs.Common.{Option, None, Some}
-use Rattle.std.specs.Option.{IfSome}
+use Rattle.std.specs.Option.{IfSome, option_to_list}
 use Rattle.laws.specs.Texts.{same_bytes}
 use Rattle.laws.specs.Lists.{any, find, position}
 use Rattle.laws.proofs.Texts.{bytes-equal}
@@ -18,7 +18,7 @@ use Rattle.guards.specs.Bounding.{bounding, bounding_from}
 use Rattle.guards.specs.Lowerings.{lowered_in}
 use Rattle.reserves.specs.States.{state_name, state_index, state_number}
 use Rattle.reserves.specs.Holding.{is_token, holds_token}
-use Rattle.reserves.specs.Covers.{index_in, field_covers, first_covering, lowered_number, is_held, first_holding, bytes_left, Ahead}
+use Rattle.reserves.specs.Covers.{index_in, field_covers, first_covering, lowered_number, first_holding, bytes_left, Ahead}
 
 -- One guard
 
@@ -45,17 +45,13 @@ module _ (file token : List ℕ) (l : List Named) where
 
   -- a field covers where it is lowered and the one of its number holds the token
   by-number : (r : List ℕ) (left : Option ℕ) →
-      cond (field_covers file token l r) (Some (index r)) left ≡ first_holding file token (lowered_number file l r ∷ []) left
-  unfolding field_covers first_holding is_held lowered_number state_number
+      cond (field_covers file token l r) (Some (index r)) left ≡ first_holding file token (option_to_list (lowered_number file l r)) left
+  unfolding field_covers first_holding lowered_number state_number
   by-number r left = go (lowered_in file r l) (any (same_bytes r) (state_names (fields file))) (own-token r)
     where
       go : (i j : Bool) → (j ≡ true → holds_token file token (index r) ≡ holds r) →
-          cond (i && j && holds r) (Some (index r)) left
-          ≡ cond (not (eqb (cond i (cond j (1 + index r) 0) 0) 0) && holds_token file token (cond i (cond j (1 + index r) 0) 0 - 1))
-          (Some (cond i (cond j (1 + index r) 0) 0 - 1)) left
-      go true true e =
-          let z : 1 + index r - 1 ≡ index r = omega arith in
-          rw (ne_eqb (1 + index r) 0 (λ o. omega (arith, o)), z, e refl)
+          cond (i && j && holds r) (Some (index r)) left ≡ first_holding file token (option_to_list (cond i (cond j (Some (index r)) None) None)) left
+      go true true e = rw (e refl) refl
       go true false e = refl
       go false j e = refl
 
@@ -69,63 +65,42 @@ module _ (file token : List ℕ) (l : List Named) where
       go true = refl
       go false = refl
 
--- Numbers in a table
+-- Several numbers
 
 module _ (file token : List ℕ) where
-  -- 0 is that of no field
-  pub holding-none : (ns : List ℕ) → ((i : ℕ) → get_or ns i 0 ≡ 0) → (left : Option ℕ) → first_holding file token ns left ≡ left
-  unfolding first_holding is_held
-  holding-none [] u left = refl
-  holding-none (n ∷ ns) u left = rw (u 0) (holding-none ns (λ i. u (suc i)) left)
-
-  -- a number that is written behind the others comes after them
-  holding-set : (ns : List ℕ) (n : ℕ) → n < length ns → ((i : ℕ) → n ≤ i → get_or ns i 0 ≡ 0) → (k : ℕ) (left : Option ℕ) →
-      first_holding file token (set ns n k) left ≡ first_holding file token ns (first_holding file token (k ∷ []) left)
+  -- those behind others come after them
+  holding-append : (ns ms : List ℕ) (left : Option ℕ) → first_holding file token (ns ++ ms) left ≡ first_holding file token ns (first_holding file token ms left)
   unfolding first_holding
-  holding-set [] n h u k left = absurd (omega (arith, h))
-  holding-set (x ∷ ns) zero h u k left =
-      ap (λ o. cond (is_held file token k) (Some (k - 1)) o) (holding-none ns (λ i. u (suc i) (omega arith)) left)
-      ∙ sym (holding-none (x ∷ ns) (λ i. u i (omega arith)) (first_holding file token (k ∷ []) left))
-  holding-set (x ∷ ns) (suc n) h u k left = rw (holding-set ns n (omega (arith, h)) (λ i l. u (suc i) (omega (arith, l))) k left)
+  holding-append [] ms left = refl
+  holding-append (n ∷ ns) ms left = rw (holding-append ns ms left) refl
 
   -- the first that holds it is found before those that are left
   holding-or : (ns : List ℕ) (left : Option ℕ) → first_holding file token ns left ≡ elim (first_holding file token ns None) [ None ↦ left | Some i ↦ Some i ]
   unfolding first_holding
   holding-or [] left = refl
-  holding-or (n ∷ ns) left = go (is_held file token n) (holding-or ns left)
+  holding-or (n ∷ ns) left = go (holds_token file token n) (holding-or ns left)
     where
       go : (k : Bool) → first_holding file token ns left ≡ elim (first_holding file token ns None) [ None ↦ left | Some i ↦ Some i ] →
-          cond k (Some (n - 1)) (first_holding file token ns left)
-          ≡ elim (cond k (Some (n - 1)) (first_holding file token ns None)) [ None ↦ left | Some i ↦ Some i ]
+          cond k (Some n) (first_holding file token ns left)
+          ≡ elim (cond k (Some n) (first_holding file token ns None)) [ None ↦ left | Some i ↦ Some i ]
       go true e = refl
       go false e = e
 
 -- Guard by guard: n are listed
 
-pub record Listing (file : List ℕ) (l : List Named) (amount : Field) (guard : Found) (lent : List ℕ) (ahead : Option Found) (table : List ℕ) (n : ℕ) : Type 0 where
-  pub wide : length table ≡ length lent
+pub record Listing (file : List ℕ) (l : List Named) (amount : Field) (guard : Found) (ahead : Option Found) (numbers : List ℕ) (n : ℕ) : Type 0 where
+  pub few : length numbers ≤ n
   pub none : n ≡ 0 → ahead ≡ Some guard
   pub fewer : 0 < n → bytes_left ahead < length guard.part.now
-  pub unused : (i : ℕ) → n ≤ i → get_or table i 0 ≡ 0
   pub first : (token : List ℕ) → first_covering file token l (bounding_from amount (Some guard))
-      ≡ first_holding file token table (first_covering file token l (bounding_from amount ahead))
+      ≡ first_holding file token numbers (first_covering file token l (bounding_from amount ahead))
 
-module _ (file : List ℕ) (l : List Named) (amount : Field) (guard : Found) (lent : List ℕ) where
-  pub listing-none : ((i : ℕ) → get_or lent i 0 ≡ 0) → Listing file l amount guard lent (Some guard) lent 0
-  listing-none u = record {
-    wide = refl;
-    none = λ e. refl;
-    fewer = λ h. absurd (omega (arith, h));
-    unused = λ i h. u i;
-    first = λ token. sym (holding-none file token lent u (first_covering file token l (bounding_from amount (Some guard))));
-  }
+module _ (file : List ℕ) (l : List Named) (amount : Field) (guard : Found) where
+  pub listing-none : Listing file l amount guard (Some guard) [] 0
+  unfolding first_holding
+  listing-none = record { few = omega arith; none = λ e. refl; fewer = λ h. absurd (omega (arith, h)); first = λ token. refl }
 
-  module _ (ahead : Option Found) (table : List ℕ) (n : ℕ) (v : Listing file l amount guard lent ahead table n) where
-    -- some are listed, or none is left
-    pub listing-end : 0 < n → Ahead file l amount guard ahead table
-    listing-end h = record { fewer = v.fewer h; first = v.first }
-
-  module _ (next : Found) (table : List ℕ) (n : ℕ) (v : Listing file l amount guard lent (Some next) table n) where
+  module _ (next : Found) (numbers : List ℕ) (n : ℕ) (v : Listing file l amount guard (Some next) numbers n) where
     no-longer : length next.part.now ≤ length guard.part.now
     no-longer = go n v.none v.fewer
       where
@@ -137,23 +112,26 @@ module _ (file : List ℕ) (l : List Named) (amount : Field) (guard : Found) (le
     shorter y e None m = omega (arith, no-longer, after_less next.part.now y next.there e)
     shorter y e (Some g) m = omega (arith, no-longer, after_less next.part.now y next.there e, m)
 
-    pub listing-on : n < length table → (x : List ℕ) → front x ≡ part 0 (front next.part.now) → (r : List ℕ) → r ≡ guarded_field (front x) →
-        (number : ℕ) → number ≡ lowered_number file l r → (y : List ℕ) → y ≡ after next.part.now →
+    pub listing-on : (x : List ℕ) → front x ≡ part 0 (front next.part.now) → (r : List ℕ) → r ≡ guarded_field (front x) →
+        (number : Option ℕ) → number ≡ lowered_number file l r → (y : List ℕ) → y ≡ after next.part.now →
         (u : Option Found) → bounding amount (fields y) ≡ bounding_from amount u →
-        IfSome u (λ g. length g.part.now ≤ length y) → Listing file l amount guard lent u (set table n number) (n + 1)
-    listing-on h x a r b number f y e u o m = record {
-      wide = length-set table n number ∙ v.wide;
+        IfSome u (λ g. length g.part.now ≤ length y) → Listing file l amount guard u (numbers ++ option_to_list number) (n + 1)
+    listing-on x a r b number f y e u o m = record {
+      few = more number;
       none = λ z. absurd (omega (arith, z));
       fewer = λ z. shorter y e u m;
-      unused = λ i g. get_or-set_other table n i number 0 (λ z. absurd (omega (arith, g, z))) ∙ v.unused i (omega (arith, g));
       first = λ token.
           v.first token
-          ∙ ap (first_holding file token table) (here token)
-          ∙ sym (holding-set file token table n h v.unused number (first_covering file token l (bounding_from amount u)));
+          ∙ ap (first_holding file token numbers) (here token)
+          ∙ sym (holding-append file token numbers (option_to_list number) (first_covering file token l (bounding_from amount u)));
     }
       where
+        more : (o : Option ℕ) → length (numbers ++ option_to_list o) ≤ n + 1
+        more None = rw (length-append numbers []) (omega (arith, v.few))
+        more (Some i) = rw (length-append numbers (i ∷ [])) (omega (arith, v.few))
+
         here : (token : List ℕ) → first_covering file token l (bounding_from amount (Some next))
-            ≡ first_holding file token (number ∷ []) (first_covering file token l (bounding_from amount u))
+            ≡ first_holding file token (option_to_list number) (first_covering file token l (bounding_from amount u))
         here token =
             one-more file token l (front next.part.now) (bounding amount (fields (after next.part.now))) r (b ∙ rw a refl)
             ∙ rw (f, ← o, e) (by-number file token l r (first_covering file token l (bounding amount (fields (after next.part.now)))))
@@ -171,21 +149,15 @@ module _ (file token numbers : List ℕ) (i : ℕ) (v : Holding file token numbe
   holding-end h = rw (drop_of_length-le numbers {i = i} h) at v.left
 
   module _ (h : i < length numbers) (n : ℕ) (e : n ≡ get_or numbers i 0) where
-    here : cond (is_held file token n) (Some (n - 1)) (first_holding file token (drop (i + 1) numbers) None) ≡ first_holding file token numbers None
+    here : cond (holds_token file token n) (Some n) (first_holding file token (drop (i + 1) numbers) None) ≡ first_holding file token numbers None
     unfolding first_holding
     here = rw (drop-step numbers i h, ← e) at v.left
 
-    pub holding-found : is_held file token n ≡ true → Some (n - 1) ≡ first_holding file token numbers None
+    pub holding-found : holds_token file token n ≡ true → Some n ≡ first_holding file token numbers None
     holding-found g = rw g at here
 
-    pub holding-on : is_held file token n ≡ false → Holding file token numbers (i + 1)
+    pub holding-on : holds_token file token n ≡ false → Holding file token numbers (i + 1)
     holding-on g = record { within = omega arith; left = rw g at here }
-
--- 0 holds none
-pub held-there : (file token : List ℕ) (n : ℕ) → is_held file token n ≡ true → 1 ≤ n
-unfolding is_held
-held-there file token zero e = cc
-held-there file token (suc n) e = omega arith
 
 -- Some guards, and then those that are left
 

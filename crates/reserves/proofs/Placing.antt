@@ -1,8 +1,8 @@
 -- The state field of a number: its name is that of the field that stands at its place. And the number of one of a name.
-use Rattle.std.proofs.Common.{ℕ, zero, suc, ◌+◌, ◌^◌, ◌≤◌, ◌<◌, ◌≡◌, refl, sym, ap, ◌∙◌, Bool, true, false, cond, not, ◌||◌, List, [], ◌∷◌, map, filter, arith, eqb, ltb, length, get_or, drop}
+use Rattle.std.proofs.Common.{ℕ, zero, suc, ◌+◌, ◌^◌, ◌≤◌, ◌<◌, ◌≡◌, refl, ap, ◌∙◌, Bool, true, false, cond, not, ◌||◌, List, [], ◌∷◌, map, filter, arith, eqb, ltb, length, get_or, drop}
 use Rattle.std.proofs.Common.{Option, None, Some, drop_of_length-le, ltb-true}
 use Rattle.std.specs.List.{slice_get, position_or_len}
-use Rattle.std.specs.Option.{option_map, unwrap_or}
+use Rattle.std.specs.Option.{option_map, unwrap_or, IfSome}
 use Rattle.std.proofs.lemmas.Bool.Decides.{nat_tests}
 use lib.Seq.{take-length}
 use Rattle.laws.specs.Lists.{any, position}
@@ -108,56 +108,47 @@ few-placed k (next f fs) = omega (arith, size-least f, few-placed (k + size f) f
 pub few-left : (s : Remaining) → length (left s) < 2 ^ 64
 few-left s = omega (arith, few-placed s.place (fields s.rest.now), tree-size s.rest.now, s.inside)
 
--- counted from 1
-abbrev counted : Option ℕ → ℕ
-counted None = 0
-counted (Some i) = i + 1
-
 module _ {A B : Type 0} (g : A → B) (p : B → Bool) where
   abbrev pub first : List A → Option ℕ
   first l = cond (ltb (position_or_len (λ x. p (g x)) l) (length l)) (Some (position_or_len (λ x. p (g x)) l)) None
 
-  number-of : (l : List A) → cond (any p (map g l)) (1 + position p (map g l)) 0 ≡ counted (first l)
+  number-of : (l : List A) → first l ≡ cond (any p (map g l)) (Some (position p (map g l))) None
   unfolding position
   number-of [] = refl
   number-of (x ∷ l) = go (p (g x)) (any p (map g l)) (position p (map g l)) (position_or_len (λ x. p (g x)) l) (length l) (number-of l)
     where
-      later : (c d : Bool) (n k : ℕ) → cond c (1 + n) 0 ≡ counted (cond d (Some k) None) → cond c (1 + suc n) 0 ≡ counted (cond d (Some (1 + k)) None)
-      later true true n k e = omega (arith, e)
-      later true false n k e = absurd (omega (arith, e))
-      later false true n k e = absurd (omega (arith, e))
+      later : (c d : Bool) (n k : ℕ) → cond d (Some k) None ≡ cond c (Some n) None → cond d (Some (1 + k)) None ≡ cond c (Some (suc n)) None
+      later true true n k e = let z : k ≡ n = cc e in ap (λ i. Some i) (omega (arith, z))
+      later true false n k e = cc e
+      later false true n k e = cc e
       later false false n k e = refl
 
-      go : (b c : Bool) (n k m : ℕ) → cond c (1 + n) 0 ≡ counted (cond (ltb k m) (Some k) None) →
-          cond (b || c) (1 + cond b zero (suc n)) 0 ≡ counted (cond (ltb (cond (not b) (1 + k) 0) (suc m)) (Some (cond (not b) (1 + k) 0)) None)
-      go true c n k m e = let z : ltb 0 (suc m) ≡ true = grind (arith, nat_tests) in rw z
+      go : (b c : Bool) (n k m : ℕ) → cond (ltb k m) (Some k) None ≡ cond c (Some n) None →
+          cond (ltb (cond (not b) (1 + k) 0) (suc m)) (Some (cond (not b) (1 + k) 0)) None ≡ cond (b || c) (Some (cond b zero (suc n))) None
+      go true c n k m e = let z : ltb 0 (suc m) ≡ true = grind (arith, nat_tests) in rw z refl
       go false c n k m e =
           let z : ltb (1 + k) (suc m) ≡ ltb k m = grind (arith, nat_tests) in
           rw z (later c (ltb k m) n k e)
 
-  first-within : (l : List A) (i : ℕ) → first l ≡ Some i → i < length l
-  first-within l i = go (ltb (position_or_len (λ x. p (g x)) l) (length l)) refl
+  first-within : (l : List A) → IfSome (first l) (λ i. i < length l)
+  first-within l = go (ltb (position_or_len (λ x. p (g x)) l) (length l)) refl
     where
-      go : (b : Bool) → ltb (position_or_len (λ x. p (g x)) l) (length l) ≡ b → cond b (Some (position_or_len (λ x. p (g x)) l)) None ≡ Some i → i < length l
-      go true h e = let z : i ≡ position_or_len (λ x. p (g x)) l = cc e in rw z (ltb-true _ _ h)
-      go false h e = cc e
+      go : (b : Bool) → ltb (position_or_len (λ x. p (g x)) l) (length l) ≡ b → IfSome (cond b (Some (position_or_len (λ x. p (g x)) l)) None) (λ i. i < length l)
+      go true h = ltb-true _ _ h
+      go false h = tt
 
 module _ (file name s : List ℕ) (e : s ≡ file) (r : Option ℕ) (q : r ≡ first name_of (same_bytes name) (filter (λ f. eqb (tag f) State) (row (fields s)))) where
   selected : r ≡ first name_of (same_bytes name) (fields_from State State (fields file))
   unfolding fields_from
   selected = q ∙ rw e (simp between-one)
 
-  number-counted : state_number (fields file) name ≡ counted r
+  pub number-counted : r ≡ state_number (fields file) name
   unfolding state_number state_index state_names
-  number-counted = number-of name_of (same_bytes name) (fields_from State State (fields file)) ∙ ap counted (sym selected)
+  number-counted = selected ∙ number-of name_of (same_bytes name) (fields_from State State (fields file))
 
-  pub number-none : r ≡ None → 0 ≡ state_number (fields file) name
-  number-none h = sym (number-counted ∙ ap counted h)
-
-  module _ (i : ℕ) (h : r ≡ Some i) where
-    pub number-found : i + 1 ≡ state_number (fields file) name
-    number-found = sym (number-counted ∙ ap counted h)
-
-    pub number-within : i + 1 ≤ length file
-    number-within =
-        omega (arith, first-within name_of (same_bytes name) (fields_from State State (fields file)) i (sym selected ∙ h), row-few State State (fields file), tree-size file)
+  pub number-within : IfSome r (λ i. i < length file)
+  number-within = rw selected (go (first name_of (same_bytes name) (fields_from State State (fields file))) (first-within name_of (same_bytes name) (fields_from State State (fields file))))
+    where
+      go : (o : Option ℕ) → IfSome o (λ i. i < length (fields_from State State (fields file))) → IfSome o (λ i. i < length file)
+      go None h = tt
+      go (Some i) h = omega (arith, h, row-few State State (fields file), tree-size file)

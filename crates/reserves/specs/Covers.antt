@@ -1,5 +1,5 @@
 -- The state field that covers a payout, by its number among all.
-use Rattle.std.specs.Prelude.{ℕ, ◌-◌, ◌<◌, ◌≡◌, Bool, cond, not, ◌&&◌, List, [], ◌∷◌, map, eqb, length}
+use Rattle.std.specs.Prelude.{ℕ, ◌<◌, ◌≡◌, Bool, cond, ◌&&◌, List, [], ◌∷◌, map, length}
 use Rattle.std.specs.Prelude.{Option, None, Some}
 use Rattle.laws.specs.Lists.{any, find}
 use Rattle.laws.specs.Texts.{same_bytes}
@@ -37,20 +37,16 @@ unfoldable pub first_covering : (file token : List ℕ) → List Named → List 
 first_covering file token lowerings guards =
     index_in (fields file) (find (field_covers file token lowerings) (map (λ g. guarded_field (part 0 g)) guards))
 
--- Numbers that are listed ahead, counted from 1; 0 where there is none
+-- Numbers that are listed ahead
 
 -- that of the state field r, if one of the lowerings of a table lowers it
-unfoldable pub lowered_number : (file : List ℕ) → List Named → (r : List ℕ) → ℕ
-lowered_number file lowerings r = cond (lowered_in file r lowerings) (state_number (fields file) r) 0
+unfoldable pub lowered_number : (file : List ℕ) → List Named → (r : List ℕ) → Option ℕ
+lowered_number file lowerings r = cond (lowered_in file r lowerings) (state_number (fields file) r) None
 
--- the state field of a number holds the token
-unfoldable pub is_held : (file token : List ℕ) → ℕ → Bool
-is_held file token n = not (eqb n 0) && holds_token file token (n - 1)
-
--- the first of some numbers whose state field does, counted from 0; where none does, one of those that are left
+-- the first of some numbers whose state field holds the token; where none does, one of those that are left
 unfoldable pub first_holding : (file token numbers : List ℕ) → Option ℕ → Option ℕ
 first_holding file token [] left = left
-first_holding file token (n ∷ ns) left = cond (is_held file token n) (Some (n - 1)) (first_holding file token ns left)
+first_holding file token (n ∷ ns) left = cond (holds_token file token n) (Some n) (first_holding file token ns left)
 
 -- how many bytes are left from a guard on, if one is
 abbrev pub bytes_left : Option Found → ℕ

@@ -1,5 +1,5 @@
 -- State fields by their names and by their numbers among all.
-use Rattle.std.specs.Prelude.{ℕ, ◌+◌, cond, List, [], get_or}
+use Rattle.std.specs.Prelude.{ℕ, cond, List, [], get_or, Option, None, Some}
 use Rattle.laws.specs.Lists.{any, position}
 use Rattle.laws.specs.Texts.{same_bytes}
 use Rattle.fields.specs.Field.{Fields, fields}
@@ -13,6 +13,6 @@ state_name file i = get_or (state_names (fields file)) i []
 unfoldable pub state_index : Fields → List ℕ → ℕ
 state_index model r = position (same_bytes r) (state_names model)
 
--- counted from 1; 0 where no state field has the name
-unfoldable pub state_number : Fields → List ℕ → ℕ
-state_number model r = cond (any (same_bytes r) (state_names model)) (1 + state_index model r) 0
+-- if some state field has the name
+unfoldable pub state_number : Fields → List ℕ → Option ℕ
+state_number model r = cond (any (same_bytes r) (state_names model)) (Some (state_index model r)) None

@@ -1,7 +1,7 @@
 // SPDX-License-Identifier: Apache-2.0 OR MIT
-// The state fields of the guards ahead of one whose turn it is: they are listed by their numbers, counted from 1, and the tokens of
+// The state fields of the guards ahead of one whose turn it is: they are listed by their numbers, and the tokens of
 // those of which nothing is remembered yet are worked out together, since an entry is then gone through once for all of them.
-ghost use Rattle.std.specs.Prelude.{ℕ, ◌≡◌, ◌+◌, ◌≤◌, ◌<◌, length, get_or};
+ghost use Rattle.std.specs.Prelude.{◌≡◌, ◌≤◌, ◌<◌, length, IfSome};
 ghost use Rattle.fields.specs.Field.{front};
 ghost use Rattle.reserves.specs.Reading.{file_of, Same};
 ghost use Rattle.reserves.specs.Covers.{lowered_number, Ahead};
@@ -17,51 +17,49 @@ use guards::guarded::{first_guard, guarded_field};
 use guards::lowering::is_lowered;
 use reserve_tokens::reserve::FIELDS;
 
-// The number of the state field of that name, if one of the lowerings of a table lowers it; else 0.
-fn lowered_number(file: &[u8], name: &[u8], lowerings: &[Named]) -> usize
+// The number of the state field of that name, if there is one and one of the lowerings of a table lowers it.
+fn lowered_number(file: &[u8], name: &[u8], lowerings: &[Named]) -> Option<usize>
     ensures number { result ≡ lowered_number file.now lowerings.now name.now }
-    ensures within { result ≤ length file.now }
+    ensures within { IfSome result (λ index. index < length file.now) }
 {
     if !is_lowered(file, lowerings, name) {
-        return 0;
+        return None;
     }
     state_number(file, name)
 }
 
-// Lists the numbers of the state fields of so many guards that bound the amount, from a given one on, and answers the first of those
-// that are left.
+// The numbers of the state fields of so many guards that bound the amount, from a given one on, and the first of those guards that
+// are left.
 pub fn list_ahead<'a>(
     file: &[u8],
     guard: Field<'a>,
     amount: &[u8],
     lowerings: &[Named],
     most: usize,
-    table: &mut [u16],
-) -> Option<Field<'a>>
+) -> (ArrayVec<u16, FIELDS>, Option<Field<'a>>)
     requires short { length file.now ≤ 32768 }
     requires some { 0 < most }
-    requires room { most ≤ length table.old }
-    requires unused { (i : ℕ) → get_or table.old i 0 ≡ 0 }
-    ensures { Ahead file.now lowerings.now (front amount.now) guard.entry result table.new }
+    requires room { most ≤ 64 }
+    ensures { Ahead file.now lowerings.now (front amount.now) guard.entry result.1 result.0.items }
 {
+    let mut numbers = ArrayVec::new();
     let mut ahead = Some(guard);
     for n in 0..most {
         let Some(next) = ahead else {
-            return None;
+            return (numbers, None);
         };
         let name = guarded_field(part_of(next.part, 0));
-        // At most 32,768: `try_from` would have to answer for what can't be.
-        table[n] = lowered_number(file, name, lowerings) as u16;
+        if let Some(index) = lowered_number(file, name, lowerings) {
+            // Below 32,768: `try_from` would have to answer for what can't be.
+            numbers.push(index as u16);
+        }
         ahead = first_guard(after_front(next.part), amount);
     }
-    ahead
+    (numbers, ahead)
 }
 
-// Notes the state field of a number, counted from 1, if nothing is remembered of it yet and it is not noted; 0 is that of none.
-fn note_unknown(number: u16, facts: &Facts, unknown: &mut ArrayVec<u16, FIELDS>) {
-    let Some(index) = number.checked_sub(1) else {
-        return;
-    };
+// Notes the state field of a number, if nothing is remembered of it yet and it is not noted.
+fn note_unknown(index: u16, facts: &Facts, unknown: &mut ArrayVec<u16, FIELDS>) {
     if STATE_FIELDS <= usize::from(index) {
         return;
     }
@@ -75,7 +73,7 @@ fn note_unknown(number: u16, facts: &Facts, unknown: &mut ArrayVec<u16, FIELDS>)
 
 impl<'a, 't> Reading<'a, 't> {
     // Works out and remembers the tokens of the state fields of these numbers of which nothing is remembered yet.
-    pub fn work_out_unknown(&mut self, numbers: &[u16; FIELDS])
+    pub fn work_out_unknown(&mut self, numbers: &[u16])
         ensures same { Same self.old self.new }
     {
         let mut unknown = ArrayVec::new();
@@ -86,7 +84,7 @@ impl<'a, 't> Reading<'a, 't> {
     }
 }
 
-// Twice as many, as far as a table has room for them.
+// Twice as many, as far as a list has room for them.
 pub fn doubled(most: usize) -> usize
     requires { 0 < most }
     ensures some { 0 < result }

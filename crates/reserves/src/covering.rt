@@ -7,7 +7,7 @@ ghost use Rattle.walking.specs.Table.{placed_at};
 ghost use Rattle.guards.specs.Bounding.{bounding_from};
 ghost use Rattle.guards.specs.Lowerings.{lowering_numbers};
 ghost use Rattle.reserves.specs.Reading.{file_of, Same};
-ghost use Rattle.reserves.specs.Covers.{asked_reserve, is_held, first_holding, first_covering};
+ghost use Rattle.reserves.specs.Covers.{asked_reserve, first_holding, first_covering};
 ghost use Rattle.std.specs.Prelude.{None};
 
 use super::ahead::{doubled, list_ahead};
@@ -21,33 +21,20 @@ use guards::contained::contains_inflow;
 use guards::guarded::first_guard;
 use guards::lowering::list_lowerings;
 use guards::payout::{asked_amount, asked_token};
-use reserve_tokens::reserve::FIELDS;
 
 // One for each nine bytes of a file that passes question 1: a statement that lowers a state field takes as many at least.
 const LOWERINGS: usize = 3641;
 
 impl<'a, 't> Reading<'a, 't> {
-    // Whether the state field of a number, counted from 1, holds the token.
-    #[tactic(auto, unfolding(crate::specs::Covers::is_held))]
-    fn is_held(&mut self, number: usize, token: &[u8]) -> bool
-        ensures same { Same self.old self.new }
-        ensures held { result ≡ is_held (file_of self.old) token.now number }
-    {
-        match number.checked_sub(1) {
-            Some(index) => self.holds_token(index, token),
-            None => false,
-        }
-    }
-
-    // The first of some numbers whose state field does.
+    // The first of some numbers whose state field holds the token.
     fn first_holding(&mut self, numbers: &[u16], token: &[u8]) -> Option<usize>
         ensures same { Same self.old self.new }
         ensures found { result ≡ first_holding (file_of self.old) token.now numbers.now None }
     {
         for &listed in numbers {
             let number = usize::from(listed);
-            if self.is_held(number, token) {
-                return Some(number - 1);
+            if self.holds_token(number, token) {
+                return Some(number);
             }
         }
         None
@@ -71,10 +58,9 @@ impl<'a, 't> Reading<'a, 't> {
         let mut most = 1;
         // It goes on while there is a guard, and counts nothing.
         while let Some(next) = ahead {
-            let mut numbers = [0u16; FIELDS];
-            let left = list_ahead(file, next, amount, lowerings, most, &mut numbers);
-            self.work_out_unknown(&numbers);
-            if let Some(index) = self.first_holding(&numbers, token) {
+            let (numbers, left) = list_ahead(file, next, amount, lowerings, most);
+            self.work_out_unknown(numbers.as_slice());
+            if let Some(index) = self.first_holding(numbers.as_slice(), token) {
                 return Some(index);
             }
             ahead = left;

@@ -70,8 +70,8 @@ impl<'a, 't> Reading<'a, 't> {
             return;
         }
         let numbers = self.numbers_of(indices);
-        for j in 0..indices.len() {
-            self.facts.remember(usize::from(indices[j]), numbers[j]);
+        for (&index, &number) in indices.iter().zip(&numbers) {
+            self.facts.remember(usize::from(index), number);
         }
     }
 

@@ -1,6 +1,6 @@
 // SPDX-License-Identifier: Apache-2.0 OR MIT
 // State fields by their names and by their numbers among all.
-ghost use Rattle.std.specs.Prelude.{◌≡◌, ◌≤◌, length, drop};
+ghost use Rattle.std.specs.Prelude.{◌≡◌, ◌≤◌, ◌<◌, length, drop, IfSome};
 ghost use Rattle.fields.specs.Field.{fields, front};
 ghost use Rattle.model.specs.Model.{name_of};
 ghost use Rattle.reserves.specs.States.{state_name, state_number};
@@ -10,6 +10,7 @@ use model::{is_named, name_of, nth_state};
 use tags::STATE;
 
 // The name of the state field of that number; no bytes where there is none.
+// It matches on what is found, as does the next: by `map_or` each proof is longer, since it has to go through the closure's contract.
 pub fn state_name(file: &[u8], index: usize) -> &[u8]
     ensures { result.now ≡ state_name file.now index }
 {
@@ -31,16 +32,12 @@ pub fn state_place(file: &[u8], index: usize) -> usize
     }
 }
 
-// The number of the first state field of that name, counted from 1; 0 where none has it.
-pub fn state_number(file: &[u8], name: &[u8]) -> usize
+// The number of the first state field of that name, if one has it.
+pub fn state_number(file: &[u8], name: &[u8]) -> Option<usize>
     ensures counted { result ≡ state_number (fields file.now) name.now }
-    ensures within { result ≤ length file.now }
+    ensures within { IfSome result (λ index. index < length file.now) }
 {
-    let found = fields_at(file, 0)
+    fields_at(file, 0)
         .filter(|field| field.tag() == STATE)
-        .position(|field| is_named(field.part, name));
-    match found {
-        Some(index) => index + 1,
-        None => 0,
-    }
+        .position(|field| is_named(field.part, name))
 }

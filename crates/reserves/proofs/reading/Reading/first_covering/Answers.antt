@@ -1,15 +1,11 @@
 -- The fields of the guards that were passed do not cover, so those that are left decide.
 use Rattle.std.proofs.Common.{rules, ◌∙◌}
-use Rattle.laws.proofs.Tables.{zeros}
 use Rattle.reserves.proofs.Holders.{some-covers, none-covers}
 use Rattle.reserves.proofs.reading.Reading.first_covering.Invariants.{none-left}
 use Rattle.reserves.proofs.reading.Reading.first_covering.Goals as goal
 
-pub list_ahead-left-requires-clause-unused : goal.list_ahead-left-requires-clause-unused
-list_ahead-left-requires-clause-unused c = λ i. zeros 64 i
-
 pub returns-in-Some-first_holding-clause-found : goal.returns-in-Some-first_holding-clause-found
-returns-in-Some-first_holding-clause-found c = some-covers _ _ _ _ _ _ c.list_ahead-left.ensures _ _ (search rules) ∙ (rw (c.in-Some.is) at c.loop-ahead.invariant.1.left)
+returns-in-Some-first_holding-clause-found c = some-covers _ _ _ _ _ _ c.list_ahead-numbers.ensures _ _ (search rules) ∙ (rw (c.in-Some.is) at c.loop-ahead.invariant.1.left)
 
 pub loop-ahead-preserved : goal.loop-ahead-preserved
 loop-ahead-preserved c = (
@@ -17,7 +13,7 @@ loop-ahead-preserved c = (
   record {
     some = c.doubled-most.ensures.some;
     few = c.doubled-most.ensures.few;
-    left = none-covers _ _ _ _ _ _ c.list_ahead-left.ensures _ (search rules) ∙ (rw (c.in-Some.is) at c.loop-ahead.invariant.1.left);
+    left = none-covers _ _ _ _ _ _ c.list_ahead-numbers.ensures _ (search rules) ∙ (rw (c.in-Some.is) at c.loop-ahead.invariant.1.left);
   },
 )
 

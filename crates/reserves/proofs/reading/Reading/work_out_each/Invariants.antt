@@ -2,5 +2,5 @@
 use Rattle.reserves.specs.Reading.{Same}
 use Rattle.reserves.proofs.reading.Reading.work_out_each.Given as goal
 
-abbrev pub invariant-loop-j : goal.invariant-loop-j
-invariant-loop-j l = Same l.fn.self l.self
+abbrev pub invariant-loop-index : goal.invariant-loop-index
+invariant-loop-index l = Same l.fn.self l.self
