@@ -112,12 +112,7 @@ fn record_refusal(refusal: Refusal, out: &mut [u8]) -> Recorded
     ensures { RefusalRecorded (number_of refusal.question) refusal.place out.old out.new result }
 {
     let mut output = Output::new(out);
-    let numbers = Numbers {
-        outcome: Outcome::Refused,
-        first: usize::from(u8::from(refusal.question)),
-        second: refusal.place,
-    };
-    write_numbers(numbers, &mut output);
+    write_numbers(Numbers::from(refusal), &mut output);
     Recorded {
         outcome: Outcome::Refused,
         count: 1,

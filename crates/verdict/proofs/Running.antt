@@ -1,6 +1,6 @@
 -- Payout by payout: those before the k-th have their covers, and those that are left decide.
 use Rattle.std.proofs.Common.{ℕ, suc, ◌+◌, ◌-◌, ◌*◌, ◌/◌, ◌%◌, ◌≤◌, ◌<◌, arith, ◌≡◌, refl, ap, ◌∙◌}
-use Rattle.std.proofs.Common.{List, [], ◌∷◌, ◌++◌, append-nil, length, take, drop, replicate, length-append, Result, Ok, Err, None}
+use Rattle.std.proofs.Common.{List, [], ◌∷◌, ◌++◌, append-nil, length, take, drop, replicate, length-append, length-take, Result, Ok, Err, None}
 use Rattle.std.proofs.Common.{drop_of_length-le, take_at, drop-cons}
 use lib.ListN.{length-replicate}
 use lib.Seq.{sets, sets-eq, length-sets}
@@ -230,11 +230,12 @@ module _ (file : List ℕ) (en : Entry) where
           let i : rest ≡ spare entry = omega (arith, e, d.all, d.counted, d.many) in
           rw (running-done h, ← i) (ap (λ n. numbers_of (Ok (record { payouts = n; spare = rest }))) (omega (arith, h, v.reached, v.many)))
 
-      pub done-written : (covers left : List ℕ) → left ≡ take (3 * en.payouts) bytes ++ drop (3 * en.payouts) covers → left ≡ matched_covers file en.place covers
+      pub done-written : (covers left part : List ℕ) → part ≡ take (3 * en.payouts) bytes → left ≡ part ++ drop (length part) covers → left ≡ matched_covers file en.place covers
       unfolding written
-      done-written covers left e =
+      done-written covers left part p e =
+          let long : length part ≡ 3 * en.payouts = rw (p, length-take) (omega (arith, v.wide, d.limit)) in
           let c : en.payouts ≡ k = omega (arith, h, v.reached) in
-          rw (running-done h, v.many, ← v.first, ← c) e
+          rw (running-done h, v.many, ← v.first, ← c, ← p, ← long) e
 
       pub done-long : 3 * en.payouts ≤ length bytes
       done-long = omega (arith, v.wide, d.limit)

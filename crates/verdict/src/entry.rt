@@ -73,7 +73,7 @@ fn match_payouts(reading: &mut Reading, entry: &Entry, covers: &mut [u8]) -> Ver
         let cover = answer.map_err(|reason| Objection::Rejected { payout: k, reason })?;
         write_cover(cover, &mut sheet, k);
     }
-    copy_sheet(&sheet, 3 * count, covers);
+    copy_sheet(&sheet[..3 * count], covers);
     Ok(Accepted {
         payouts: count,
         spare: entry.total.saturating_sub(count),

@@ -1,9 +1,11 @@
 // A verdict as numbers.
-ghost use Rattle.std.specs.Prelude.{◌≡◌};
+ghost use Rattle.std.specs.Prelude.{◌≡◌, Err};
+ghost use Rattle.verdict.specs.declared.entry.Objection.TheVariants.{Refused};
 ghost use Rattle.verdict.specs.Coded.{numbers_of};
 ghost use Rattle.verdict.specs.Outcomes.{outcome_number};
 
 use super::entry::{Objection, Verdict};
+use questions::question::Refusal;
 
 // What a verdict is, with the rules' numbers; those of several entries are as bad as the largest.
 #[derive(Clone, Copy, PartialEq, Eq, PartialOrd, Ord)]
@@ -30,6 +32,21 @@ pub struct Numbers {
     pub second: usize,
 }
 
+// Those of a "no" to a question: its number, and the place that it names.
+impl From<Refusal> for Numbers {
+    ghost from_gives = { λ refusal numbers. numbers ≡ numbers_of (Err (Refused refusal)) };
+
+    #[tactic(auto, unfolding(crate::specs::Coded::numbers_of))]
+    fn from(refusal: Refusal) -> Numbers {
+        Numbers {
+            outcome: Outcome::Refused,
+            first: usize::from(u8::from(refusal.question)),
+            second: refusal.place,
+        }
+    }
+}
+
+// Those of every verdict.
 impl From<Verdict> for Numbers {
     ghost from_gives = { λ verdict numbers. numbers ≡ numbers_of verdict };
 
@@ -46,11 +63,7 @@ impl From<Verdict> for Numbers {
                 first: payout,
                 second: usize::from(reason),
             },
-            Err(Objection::Refused(refusal)) => Numbers {
-                outcome: Outcome::Refused,
-                first: usize::from(u8::from(refusal.question)),
-                second: refusal.place,
-            },
+            Err(Objection::Refused(refusal)) => Numbers::from(refusal),
         }
     }
 }

@@ -1,6 +1,6 @@
 // SPDX-License-Identifier: Apache-2.0 OR MIT
 // Covers as bytes: three a payout.
-ghost use Rattle.std.specs.Prelude.{◌≡◌, ◌++◌, ◌+◌, ◌*◌, ◌≤◌, length, take, drop};
+ghost use Rattle.std.specs.Prelude.{◌≡◌, ◌++◌, ◌+◌, ◌*◌, ◌≤◌, length, drop};
 ghost use Rattle.std.proofs.lemmas.List.Edits.{sets};
 ghost use Rattle.matching.specs.Coded.{cover_of};
 ghost use Rattle.claim.specs.Verdict.{kind, index};
@@ -47,11 +47,10 @@ pub fn write_cover(cover: Cover, sheet: &mut [u8], k: usize)
     sheet[at..at + 3].copy_from_slice(&[kind_of(cover), high, low]);
 }
 
-// Copies the first n bytes of a sheet into the lent covers, and leaves what stands behind them.
-pub fn copy_sheet(sheet: &[u8], n: usize, covers: &mut [u8])
-    requires room { n ≤ length covers.old }
-    requires there { n ≤ length sheet.now }
-    ensures { covers.new ≡ take n sheet.now ++ drop n covers.old }
+// Copies what is written of a sheet into the lent covers, and leaves what stands behind it.
+pub fn copy_sheet(written: &[u8], covers: &mut [u8])
+    requires { length written.now ≤ length covers.old }
+    ensures { covers.new ≡ written.now ++ drop (length written.now) covers.old }
 {
-    covers[..n].copy_from_slice(&sheet[..n]);
+    covers[..written.len()].copy_from_slice(written);
 }

@@ -38,4 +38,4 @@ pub returns-clause-answer : goal.returns-clause-answer
 returns-clause-answer c = search done-told
 
 pub returns-clause-covers : goal.returns-clause-covers
-returns-clause-covers c = search done-written
+returns-clause-covers c = search (done-written, rules)
