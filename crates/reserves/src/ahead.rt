@@ -30,16 +30,16 @@ fn lowered_number(file: &[u8], name: &[u8], lowerings: &[Named]) -> Option<usize
 
 // The numbers of the state fields of so many guards that bound the amount, from a given one on, and the first of those guards that
 // are left.
-pub fn list_ahead<'a>(
+pub fn list_ahead<'a, const ROOM: usize>(
     file: &[u8],
     guard: Field<'a>,
     amount: &[u8],
     lowerings: &[Named],
     most: usize,
-) -> (ArrayVec<u16, FIELDS>, Option<Field<'a>>)
+) -> (ArrayVec<u16, ROOM>, Option<Field<'a>>)
     requires short { length file.now ≤ 32768 }
     requires some { 0 < most }
-    requires room { most ≤ 64 }
+    requires room { most ≤ ROOM }
     ensures { Ahead file.now lowerings.now (front amount.now) guard.entry result.1 result.0.items }
 {
     let mut numbers = ArrayVec::new();

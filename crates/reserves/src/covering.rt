@@ -21,6 +21,7 @@ use guards::contained::contains_inflow;
 use guards::guarded::first_guard;
 use guards::lowering::list_lowerings;
 use guards::payout::{asked_amount, asked_token};
+use reserve_tokens::reserve::FIELDS;
 
 // One for each nine bytes of a file that passes question 1: a statement that lowers a state field takes as many at least.
 const LOWERINGS: usize = 3641;
@@ -58,7 +59,7 @@ impl<'a, 't> Reading<'a, 't> {
         let mut most = 1;
         // It goes on while there is a guard, and counts nothing.
         while let Some(next) = ahead {
-            let (numbers, left) = list_ahead(file, next, amount, lowerings, most);
+            let (numbers, left) = list_ahead::<FIELDS>(file, next, amount, lowerings, most);
             self.work_out_unknown(numbers.as_slice());
             if let Some(index) = self.first_holding(numbers.as_slice(), token) {
                 return Some(index);

@@ -6,10 +6,10 @@ use Rattle.reserves.proofs.ahead.list_ahead.Goals.{in-Some-lowered_number, in_de
 use Rattle.reserves.proofs.ahead.list_ahead.Goals as goal
 
 pub loop-n-init : goal.loop-n-init
-loop-n-init c = rw (c.new-numbers.ensures) (listing-none _ _ _ _)
+loop-n-init g c = rw (c.new-numbers.ensures) (listing-none _ _ _ _)
 
 pub loop-n-preserved : goal.loop-n-preserved
-loop-n-preserved c =
+loop-n-preserved g c =
     rw numbers (listing-on _ _ _ _ _ _ _ (rw (c.in-Some.is) at c.loop-n.invariant) _ c.part_of.ensures.reads _ c.guarded_field-name.ensures _
     c.lowered_number.ensures.number _ c.after_front.ensures _ c.first_guard-ahead.ensures.found c.first_guard-ahead.ensures.within)
   where
