@@ -49,7 +49,8 @@ fn write_numbers(numbers: Numbers, output: &mut Output)
     write_number(numbers.second, output);
 }
 
-// Writes the record of a verdict with these numbers; the first of the bytes lent are the covers of an accepted entry.
+// Writes the record of a verdict with these numbers; the first of the bytes lent are the covers of an accepted entry. To lend the
+// covers alone the caller would have to cut them out, by the same test of the outcome.
 fn write_record(numbers: Numbers, covers: &[u8], output: &mut Output)
     requires { CoversIn numbers covers.now }
     ensures { Writes (record_of numbers covers.now) output.old output.new }

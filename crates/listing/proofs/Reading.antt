@@ -1,10 +1,14 @@
 -- What is read off a record, its lines, and the records one after the other.
 use Rattle.std.specs.List.{enumerate_from}
-use Rattle.std.proofs.Common.{ℕ, zero, suc, ◌+◌, ◌*◌, ◌<◌, ◌≡◌, refl, ap, List, [], ◌∷◌, arith, add-one, eq-eqb, ne_eqb, length, get_or, take, drop, take_all, take-suc}
+use Rattle.std.proofs.Common.{Result, Ok, Err, ℕ, zero, suc, ◌+◌, ◌*◌, ◌<◌, ◌≡◌, refl, ap, List, [], ◌∷◌, arith, add-one, ne_eqb, length, get_or, take, drop, take_all, take-suc}
 use mathlib.Core.List.{flat_map}
 use Rattle.output.specs.Writes.{Writes}
 use Rattle.output.specs.declared.Output.{Output}
 use Rattle.output.proofs.Buffer.{writes-none, writes_then}
+use Rattle.verdict.specs.Outcomes.{outcome_number, IsOutcome}
+use Rattle.verdict.specs.declared.numbers.Outcome.{Outcome}
+use Rattle.verdict.specs.declared.numbers.Outcome.TheVariants.{Accepted, Rejected, Refused}
+use Rattle.verdict.specs.declared.numbers.UnknownOutcome.{UnknownOutcome}
 use Rattle.contract.specs.Records.{below}
 use Rattle.contract.specs.Reading.{outcome_in, first_in, second_in, size_of}
 use Rattle.contract.proofs.Below.{each-then}
@@ -13,31 +17,45 @@ use Rattle.listing.specs.Listing.{line, refusal_line, accepted_line, rejected_li
 use Rattle.listing.specs.Coded.{cover_line_at, lines_of, text_of}
 use Rattle.listing.specs.Reading.{first_records}
 
-module _ (s : List ℕ) (what : ℕ) (e : what ≡ outcome_in s) where
-  pub size-alone : (what ≡ 0 → ⊥) → 5 ≡ size_of s
+-- the size and the lines go by what the record is
+module _ (s : List ℕ) where
+  pub size-covers : 0 ≡ outcome_in s → (first : ℕ) → first ≡ first_in s → (wide : ℕ) → wide ≡ first → 5 + 3 * wide ≡ size_of s
   unfolding size_of
-  size-alone z = rw (← e, ne_eqb what 0 z)
+  size-covers e first f wide g = rw (← e, ← f, g)
 
-  pub size-covers : what ≡ 0 → (first : ℕ) → first ≡ first_in s → (wide : ℕ) → wide ≡ first → 5 + 3 * wide ≡ size_of s
+  pub size-alone : (what : Outcome) → outcome_number what ≡ outcome_in s → (what ≡ Accepted → ⊥) → 5 ≡ size_of s
   unfolding size_of
-  size-covers z first f wide g = rw (← e, eq-eqb what 0 z, ← f, g)
+  size-alone Accepted e z = absurd (z refl)
+  size-alone Rejected e z = rw (← e)
+  size-alone Refused e z = rw (← e)
 
--- the lines go by what the record is
-module _ (n : ℕ) (s : List ℕ) (what : ℕ) (e : what ≡ outcome_in s) (first : ℕ) (f : first ≡ first_in s) (a b : Output) where
-  pub lines-rejected : (what ≡ 2 → ⊥) → what ≡ 1 → Writes (line (0x65 ∷ []) (decimal n ∷ (0x6E ∷ 0x6F ∷ []) ∷ decimal first ∷ [])) a b → Writes (lines_of n s) a b
+  pub size-unknown : 2 < outcome_in s → 5 ≡ size_of s
+  unfolding size_of
+  size-unknown h = rw (ne_eqb (outcome_in s) 0 (λ z. omega (arith, h, z)))
+
+-- an acceptance is neither a refusal nor a rejection, and what is no outcome is neither
+module _ (number : ℕ) (read : Result Outcome UnknownOutcome) (e : IsOutcome number read) where
+  pub neither-accepted : read ≡ Ok Accepted → (number ≡ 2 → ⊥) × (number ≡ 1 → ⊥)
+  neither-accepted f = let g : 0 ≡ number = rw f at e in (λ h. omega (arith, g, h), λ h. omega (arith, g, h))
+
+  pub neither-unknown : (unknown : UnknownOutcome) → read ≡ Err unknown → (number ≡ 2 → ⊥) × (number ≡ 1 → ⊥)
+  neither-unknown unknown f = let g = rw f at e in (λ h. omega (arith, g.1, h), λ h. omega (arith, g.1, h))
+
+module _ (n : ℕ) (s : List ℕ) (first : ℕ) (f : first ≡ first_in s) (a b : Output) where
+  pub lines-rejected : 1 ≡ outcome_in s → Writes (line (0x65 ∷ []) (decimal n ∷ (0x6E ∷ 0x6F ∷ []) ∷ decimal first ∷ [])) a b → Writes (lines_of n s) a b
   unfolding lines_of rejected_line
-  lines-rejected y z w = rw (← e, ne_eqb what 2 y, eq-eqb what 1 z, ← f) w
+  lines-rejected e w = rw (← e, ← f) w
 
   module _ (second : ℕ) (g : second ≡ second_in s) where
-    pub lines-refused : what ≡ 2 → Writes (line (0x72 ∷ []) (decimal first ∷ decimal second ∷ [])) a b → Writes (lines_of n s) a b
+    pub lines-refused : 2 ≡ outcome_in s → Writes (line (0x72 ∷ []) (decimal first ∷ decimal second ∷ [])) a b → Writes (lines_of n s) a b
     unfolding lines_of refusal_line
-    lines-refused z w = rw (← e, eq-eqb what 2 z, ← f, ← g) w
+    lines-refused e w = rw (← e, ← f, ← g) w
 
-    pub lines-accepted : (what ≡ 2 → ⊥) → (what ≡ 1 → ⊥) → Writes (line (0x65 ∷ []) (decimal n ∷ (0x6F ∷ 0x6B ∷ []) ∷ decimal first ∷ decimal second ∷ [])) a b →
+    pub lines-accepted : (outcome_in s ≡ 2 → ⊥) → (outcome_in s ≡ 1 → ⊥) → Writes (line (0x65 ∷ []) (decimal n ∷ (0x6F ∷ 0x6B ∷ []) ∷ decimal first ∷ decimal second ∷ [])) a b →
         (covers : List ℕ) → covers ≡ drop 5 s → (c : Output) → Writes (flat_map (cover_line_at covers) (below first)) b c → Writes (lines_of n s) a c
     unfolding lines_of accepted_line
     lines-accepted y z w covers k c x =
-        rw (← e, ne_eqb what 2 y, ne_eqb what 1 z, ← f, ← g, ← k)
+        rw (ne_eqb (outcome_in s) 2 y, ne_eqb (outcome_in s) 1 z, ← f, ← g, ← k)
         (writes_then a (accepted_line n first second) (flat_map (cover_line_at covers) (below first)) b c w x)
 
 -- Records one after the other

@@ -15,6 +15,7 @@ use contract::records::each_record;
 use fields::bytes::byte_at;
 use output::Output;
 use verdict::entry::SHORT_FILE;
+use verdict::numbers::Outcome;
 
 // A byte more than the records of every file take.
 const RECORDS: usize = 12609;
@@ -51,9 +52,14 @@ fn write_record(number: usize, front: Record, output: &mut Output)
     let first = usize::from(front.first());
     let second = usize::from(front.second());
     match front.outcome() {
-        2 => write_line(b"r", &[Number(first), Number(second)], output),
-        1 => write_line(b"e", &[Number(number), Text(b"no"), Number(first)], output),
-        _ => {
+        Ok(Outcome::Refused) => write_line(b"r", &[Number(first), Number(second)], output),
+        Ok(Outcome::Rejected) => write_line(
+            b"e",
+            &[Number(number), Text(b"no"), Number(first)],
+            output,
+        ),
+        // What is no outcome reads as an accepted entry: no record that is written has it.
+        Ok(Outcome::Accepted) | Err(_) => {
             write_line(
                 b"e",
                 &[Number(number), Text(b"ok"), Number(first), Number(second)],

@@ -1,10 +1,12 @@
 // Records as they are read back from their bytes.
 ghost use Rattle.std.specs.Prelude.{◌≡◌, drop};
 ghost use Rattle.std.specs.Iterator.{YieldsFirstBy, item_count};
+ghost use Rattle.verdict.specs.Outcomes.{IsOutcome};
 ghost use Rattle.contract.specs.Reading.{front_number, outcome_in, first_in, second_in, size_of};
 ghost use Rattle.listing.specs.Reading.{bytes_of, left};
 
 use fields::bytes::{byte_at, skip};
+use verdict::numbers::{Outcome, UnknownOutcome};
 
 // A record: the bytes from its first one on.
 #[derive(Clone, Copy)]
@@ -27,11 +29,11 @@ fn front_number(s: &[u8]) -> u16
 }
 
 impl<'a> Record<'a> {
-    // What the verdict is.
-    pub fn outcome(&self) -> u8
-        ensures { result ≡ outcome_in self.now.bytes.now }
+    // What the verdict is. No record that is written begins with a byte that is none.
+    pub fn outcome(&self) -> Result<Outcome, UnknownOutcome>
+        ensures { IsOutcome (outcome_in self.now.bytes.now) result }
     {
-        byte_at(self.bytes, 0)
+        Outcome::try_from(byte_at(self.bytes, 0))
     }
 
     // Its two numbers.
@@ -51,7 +53,7 @@ impl<'a> Record<'a> {
     fn size(&self) -> usize
         ensures { result ≡ size_of self.now.bytes.now }
     {
-        if self.outcome() == 0 {
+        if let Ok(Outcome::Accepted) = self.outcome() {
             5 + 3 * usize::from(self.first())
         } else {
             5

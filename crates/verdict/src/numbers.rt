@@ -2,7 +2,7 @@
 ghost use Rattle.std.specs.Prelude.{◌≡◌, Err};
 ghost use Rattle.verdict.specs.declared.entry.Objection.TheVariants.{Refused};
 ghost use Rattle.verdict.specs.Coded.{numbers_of};
-ghost use Rattle.verdict.specs.Outcomes.{outcome_number};
+ghost use Rattle.verdict.specs.Outcomes.{outcome_number, IsOutcome};
 
 use super::entry::{Objection, Verdict};
 use questions::question::Refusal;
@@ -21,6 +21,25 @@ impl From<Outcome> for u8 {
     fn from(outcome: Outcome) -> u8 {
         // The discriminant is the rules' number.
         outcome as u8
+    }
+}
+
+// A number that no outcome has.
+#[derive(Clone, Copy)]
+pub struct UnknownOutcome(pub u8);
+
+impl TryFrom<u8> for Outcome {
+    type Error = UnknownOutcome;
+
+    ghost try_from_gives = { IsOutcome };
+
+    fn try_from(number: u8) -> Result<Outcome, UnknownOutcome> {
+        match number {
+            0 => Ok(Outcome::Accepted),
+            1 => Ok(Outcome::Rejected),
+            2 => Ok(Outcome::Refused),
+            _ => Err(UnknownOutcome(number)),
+        }
     }
 }
 
