@@ -30,6 +30,7 @@ fn write_cover(covers: &[u8], number: usize, output: &mut Output)
 {
     let at = 3 * number;
     let kind = usize::from(byte_at(covers, at));
+    // For front_number of records.rt the two bytes would have to be cut out first: tried, and no plainer; the proof was longer.
     let index = usize::from(u16::from_be_bytes([byte_at(covers, at + 1), byte_at(covers, at + 2)]));
     write_line(b"p", &[Number(number), Number(kind), Number(index)], output);
 }
