@@ -1,7 +1,7 @@
 // SPDX-License-Identifier: Apache-2.0 OR MIT
-// The backings of an entry by number: backing i is debit i, and behind the debits an asset parameter. It stands in the file at
-// the i-th place of a table, the call of a debit and the parameter itself. The file or its reading, the entry and the number stand side by
-// side: an entry is lent for all its backings, and a reading goes on to the next entry.
+// The backings of an entry by number: backing i is debit i, and behind the debits an asset parameter. It stands in the file at the
+// i-th place of a table, the call of a debit and the parameter itself. The file or its reading, the entry and the number stand side
+// by side: an entry is lent for all its backings, and a reading goes on to the next entry.
 ghost use Rattle.std.specs.Prelude.{◌≡◌, ◌≤◌, length, take, drop};
 ghost use Rattle.fields.specs.Field.{fields, front, part};
 ghost use Rattle.walking.specs.Walking.{peel, receiver};

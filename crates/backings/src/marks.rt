@@ -15,7 +15,8 @@ use entries::entry::Entry;
 use guards::payout::payout_amount;
 use walking::peel::peel;
 
-// What a backing is asked of the amount of a payout: whether it equals it, or bounds it. Every comparison of amounts is one of these.
+// What a backing is asked of the amount of a payout: whether it equals it, or bounds it. Every comparison of amounts is one of
+// these.
 #[derive(Clone, Copy)]
 pub enum Test {
     Equals,

@@ -84,7 +84,7 @@ fn list_one(field: Field, denied: bool, conditions: &mut Table<u16>)
     }
 }
 
-// The same of each of some fields in a row.
+// The same of each of some fields in a row. It reads like the rows of crates/walking, of another recursion.
 #[cycle(split_negate)]
 fn list_each(parts: Fields, denied: bool, conditions: &mut Table<u16>)
     requires { 3 * conditions.old.count + length parts.rest.now < 3 * 2 ^ 64 }

@@ -83,6 +83,7 @@ fn record_entries(file: &[u8], scratch: &mut [u16], out: &mut [u8]) -> Recorded
     let mut facts = nothing_known(file);
     let mut reading = Reading::new(&mut facts, scratch);
     let mut output = Output::new(out);
+    // Both go on beside the entries: what is answered of all is no part of one.
     let mut outcome = Outcome::Accepted;
     let mut count = 0;
     for entry in fields_at(file, 0).filter(|field| field.tag() == ENTRY) {

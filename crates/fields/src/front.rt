@@ -85,7 +85,8 @@ pub fn parts_of(s: &[u8]) -> &[u8]
     &s[..0]
 }
 
-// s from its n-th field on, counted from 0.
+// s from its n-th field on, counted from 0. The iterator's `nth` would hand on the field alone, and no place where there is none,
+// which `shows` speaks of too.
 pub fn nth_field(s: &[u8], n: usize) -> &[u8]
     ensures reads { front result.now ≡ nth n (fields s.now) }
     ensures shows { result.now ≡ drop (place_of n (fields s.now)) s.now }

@@ -78,7 +78,8 @@ fn is_map(file: &[u8], map: &[u8], number: u16, listed: &Funding) -> bool
     same_bytes(ident(skip(file, usize::from(listed.place))), map)
 }
 
-// The first of the listed maps that is the map, by its index.
+// The first of the listed maps that is the map, by its index. The map's name comes from a call, and the file is where the listed
+// names are.
 fn find_map(file: &[u8], map: &[u8], maps: &[Funding]) -> Option<usize>
     ensures { result ≡ position (is_map file.now map.now) maps.now }
 {

@@ -70,7 +70,8 @@ fn is_lowering(amount: &[u8], s: &[u8]) -> bool
     !contains_wrapping(part_of(s, 1))
 }
 
-// Lists a field, by the number of its target's name, where it is a statement that lowers its target by the amount.
+// Lists a field, by the number of its target's name, where it is a statement that lowers its target by the amount. (What lists
+// asset parameters reads so, of another test and another name.)
 #[tactic(auto, unfolding(crate::specs::Lowerings::lowering_at))]
 fn list_lowering(amount: &[u8], field: &Field, lowerings: &mut Table<Named>)
     requires place { field.now.place < 65536 }

@@ -1,6 +1,6 @@
 // SPDX-License-Identifier: Apache-2.0 OR MIT
-// A payout's token and amount. The payouts that ask for a state field stand in the file at the places of a table; the number beside a table
-// is the payout's own, and not how long the table is.
+// A payout's token and amount. The payouts that ask for a state field stand in the file at the places of a table; the number beside
+// a table is the payout's own, and not how long the table is.
 ghost use Rattle.std.specs.Prelude.{◌≡◌, ◌≤◌, length, get_or, drop};
 ghost use Rattle.fields.specs.Field.{front};
 ghost use Rattle.guards.specs.Payouts.{payout_token, payout_amount};

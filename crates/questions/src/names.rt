@@ -17,7 +17,7 @@ use fields::row::fields_at;
 use model::{has_state, name_of};
 use tags::STATE;
 
-// Most files are no longer than this.
+// Most files are no longer than this. (The verdict's tables have the same limit, for a reason of their own.)
 const SHORT_FILE: usize = 6144;
 
 // The places of the table for such a file: a short table is soon cleared.
@@ -42,8 +42,8 @@ const FIRST_BASE: usize = 1640531527;
 // base a file of 2,500 names has about a dozen; for each, all names before are looked at.
 const FEW_ALARMS: usize = 24;
 
-// What a place holds after one more note; 0 is no note. An enum of none, a note and several would take two bytes of a place, and a table
-// of twice the length is longer cleared.
+// What a place holds after one more note; 0 is no note. An enum of none, a note and several would take two bytes of a place, and a
+// table of twice the length is longer cleared.
 #[tactic(auto, unfolding(crate::specs::Noted::joined_note))]
 fn joined_note(held: u8, note: u8) -> u8
     ensures { result ≡ joined_note held note }
@@ -92,6 +92,7 @@ impl Comparison {
     fn check_names_in(self, file: &[u8], table: &mut [u8]) -> Option<Answer>
         ensures { Decided file.now self.allowed result }
     {
+        // Of the fields only those that gave a false alarm are counted.
         let mut alarms = 0;
         for field in fields_at(file, 0) {
             if !self.note_name(field.part, table) {

@@ -51,6 +51,7 @@ fn replay_record(length: usize, s: &[u8]) -> (bool, &[u8]) {
 fn main(rt: HostRuntime) -> io::Result<()> {
     let mut list = Vec::new(rt.alloc());
     rt.reader().read_to_end(&mut list)?;
+    // Where a record ends is known when it is read, so that what is left moves on, and what came is counted beside it.
     let mut rest = list.as_slice();
     let mut count: u64 = 0;
     let mut differences: u64 = 0;

@@ -182,7 +182,7 @@ fn start_each(facts: &Facts, places: &[u16], numbers: &mut [u16])
     requires { EachAllAgree facts.now.file.now places.now numbers.old }
     ensures { EachNumber facts.now.file.now places.now numbers.new }
 {
-    // By an index as above.
+    // By an index as above; what is made of each is another number.
     for j in 0..places.len() {
         let name = name_of(skip(facts.file, usize::from(places[j])));
         // The number of a token of a short file is small: try_from would have to answer for what can't be.

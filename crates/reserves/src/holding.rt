@@ -30,6 +30,7 @@ fn list_places(file: &[u8], indices: &[u16], places: &mut [u16])
     requires room { length indices.now ≤ length places.old }
     ensures { Placing file.now indices.now places.new }
 {
+    // By an index, which joins the two tables: what is written through an adapter of both nothing is known of.
     for j in 0..indices.len() {
         // At most 32,768: `try_from` would have to answer for what can't be.
         places[j] = state_place(file, usize::from(indices[j])) as u16;
@@ -49,7 +50,8 @@ impl<'a, 't> Reading<'a, 't> {
         number
     }
 
-    // The numbers of the tokens that the state fields of these numbers hold.
+    // The numbers of the tokens that the state fields of these numbers hold. Three tables stand side by side, each made whole of
+    // the one before it: as one of a struct it would be half empty at each step. As many count as there are indices.
     fn numbers_of(&mut self, indices: &[u16]) -> [u16; FIELDS]
         requires few { length indices.now ≤ 64 }
         ensures same { Same self.old self.new }

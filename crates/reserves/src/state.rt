@@ -9,8 +9,8 @@ use fields::row::fields_at;
 use model::{is_named, name_of, nth_state};
 use tags::STATE;
 
-// The name of the state field of that number; no bytes where there is none.
-// It matches on what is found, as does the next: by `map_or` each proof is longer, since it has to go through the closure's contract.
+// The name of the state field of that number; no bytes where there is none. It matches on what is found, as does the next: by
+// `map_or` each proof is longer, since it has to go through the closure's contract.
 pub fn state_name(file: &[u8], index: usize) -> &[u8]
     ensures { result.now ≡ state_name file.now index }
 {

@@ -1,6 +1,6 @@
 // SPDX-License-Identifier: Apache-2.0 OR MIT
-// The verdict on an entry: it is read, questions 10 to 12 are asked, and then it is gone through payout by payout. The covers that C lends
-// stand beside what is asked for, an entry or its number: they belong to the answer.
+// The verdict on an entry: it is read, questions 10 to 12 are asked, and then it is gone through payout by payout. The covers that
+// C lends stand beside what is asked for, an entry or its number: they belong to the answer.
 ghost use Rattle.std.specs.Prelude.{◌≡◌, ◌*◌, ◌≤◌, length, ok_or, IfSome, IfOk};
 ghost use Rattle.entries.specs.Entered.{Read, Entered};
 ghost use Rattle.reserves.specs.Reading.{file_of, Same};

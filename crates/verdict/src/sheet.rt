@@ -8,8 +8,8 @@ ghost use Rattle.verdict.specs.Sheet.{cover_bytes};
 
 use matching::answer::Cover;
 
-// The kind of a cover. It is no `From`: that would have to stand in crates/matching, with Cover, and the rules' numbers of the kinds
-// stand above it, in crates/claim.
+// The kind of a cover. It is no `From`: that would have to stand in crates/matching, with Cover, and the rules' numbers of the
+// kinds stand above it, in crates/claim.
 fn kind_of(cover: Cover) -> u8
     ensures { result ≡ kind (cover_of cover) }
 {
