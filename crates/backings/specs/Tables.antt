@@ -49,9 +49,9 @@ asked_by Equals = equal_to
 asked_by Bounds = bounded_by
 
 -- in two parts: the amount that it asks about, and whether a backing passes
-abbrev pub asked_amount : Test → Field → Field
-asked_amount Equals amount = peel amount
-asked_amount Bounds amount = amount
+abbrev pub tested_amount : Test → Field → Field
+tested_amount Equals amount = peel amount
+tested_amount Bounds amount = amount
 
 abbrev pub passes : Test → (amount backing : Field) → Bool
 passes Equals amount backing = expr_eq backing amount

@@ -5,7 +5,7 @@ ghost use Rattle.laws.specs.Lists.{any};
 ghost use Rattle.fields.specs.Field.{front};
 ghost use Rattle.guards.specs.Payouts.{payout_amount};
 ghost use Rattle.bounds.specs.Backing.{backing_field};
-ghost use Rattle.backings.specs.Tables.{asked_amount, passes, asked_by, equal_to, first_free, any_taken};
+ghost use Rattle.backings.specs.Tables.{tested_amount, passes, asked_by, equal_to, first_free, any_taken};
 ghost use Rattle.backings.specs.Marked.{all_free, mark_at, without, with_used};
 
 use super::backing::backing_amount;
@@ -25,8 +25,8 @@ pub enum Test {
 
 impl Test {
     // The amount that is asked about: peeled to be equal, once for all backings, and with its wrappers to be bounded.
-    fn asked_amount(self, amount: &[u8]) -> &[u8]
-        ensures { front result.now ≡ asked_amount self (front amount.now) }
+    fn tested_amount(self, amount: &[u8]) -> &[u8]
+        ensures { front result.now ≡ tested_amount self (front amount.now) }
     {
         match self {
             Test::Equals => peel(amount),
@@ -111,7 +111,7 @@ impl Marks {
     pub fn first_free(&self, file: &[u8], entry: &Entry, test: Test, s: &[u8]) -> Option<usize>
         ensures { result ≡ first_free file.now entry.now self.now (asked_by test (payout_amount (front s.now))) }
     {
-        let amount = test.asked_amount(payout_amount(s));
+        let amount = test.tested_amount(payout_amount(s));
         (0..entry.total).find(|&i| self.is_free(i)
             && test.passes(backing_amount(file, entry, i), amount))
     }

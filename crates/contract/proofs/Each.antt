@@ -17,7 +17,8 @@ use Rattle.contract.specs.Coded.{head_of}
 use Rattle.contract.specs.Each.{record_count, each_record, largest_of_each, EachRecorded, AllRecorded, RefusalRecorded}
 use Rattle.contract.specs.declared.records.Recorded.{Recorded}
 
-pub refusal-recorded : (k p : ℕ) (a b : Output) → Writes (head_of (record { outcome = Refused; first = k; second = p })) a b → (t u : List ℕ) → a.buffer.now ≡ t → a.written ≡ 0 → b.buffer.now ≡ u →
+pub refusal-recorded : (k p : ℕ) (a b : Output) → Writes (head_of (record { outcome = Refused; first = k; second = p })) a b →
+    (t u : List ℕ) → a.buffer.now ≡ t → a.written ≡ 0 → b.buffer.now ≡ u →
     RefusalRecorded k p t u (record { outcome = Refused; count = 1; end = b.written })
 unfolding recorded head_of outcome first_of second_of written
 refusal-recorded k p a b w t u e f g = record { what = refl; many = refl; bytes = rw (append-nil, ← e, ← f, ← g) w.bytes }

@@ -103,7 +103,8 @@ module _ (file behind : List ℕ) where
 -- from the records as they were written into a buffer for them
 module _ (file records : List ℕ) (r : Recorded) (room : ℕ) (i : EachRecorded file (replicate room 0) records r) where
   -- where it has room for more, they are all there
-  pub listing-written : (r.end ≡ room → ⊥) → (a b : Output) → Writes (text_of r.count 0 records) a b → (before u : List ℕ) → a.buffer.now ≡ before → a.written ≡ 0 → b.buffer.now ≡ u →
+  pub listing-written : (r.end ≡ room → ⊥) → (a b : Output) → Writes (text_of r.count 0 records) a b →
+      (before u : List ℕ) → a.buffer.now ≡ before → a.written ≡ 0 → b.buffer.now ≡ u →
       Written (listing file) before 0 u b.written
   listing-written z a b w before u e f g =
       let long : length (replicate {A = ℕ} room 0) ≡ room = length-replicate {A = ℕ} room 0 in

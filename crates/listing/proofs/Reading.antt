@@ -51,7 +51,8 @@ module _ (n : ℕ) (s : List ℕ) (first : ℕ) (f : first ≡ first_in s) (a b 
     unfolding lines_of refusal_line
     lines-refused e w = rw (← e, ← f, ← g) w
 
-    pub lines-accepted : (outcome_in s ≡ 2 → ⊥) → (outcome_in s ≡ 1 → ⊥) → Writes (line (0x65 ∷ []) (decimal n ∷ (0x6F ∷ 0x6B ∷ []) ∷ decimal first ∷ decimal second ∷ [])) a b →
+    pub lines-accepted : (outcome_in s ≡ 2 → ⊥) → (outcome_in s ≡ 1 → ⊥) →
+        Writes (line (0x65 ∷ []) (decimal n ∷ (0x6F ∷ 0x6B ∷ []) ∷ decimal first ∷ decimal second ∷ [])) a b →
         (covers : List ℕ) → covers ≡ drop 5 s → (c : Output) → Writes (flat_map (cover_line_at covers) (below first)) b c → Writes (lines_of n s) a c
     unfolding lines_of accepted_line
     lines-accepted y z w covers k c x =

@@ -11,7 +11,8 @@ loop-number-init-derived c =
       (
         tt,
         tt,
-        inl (rw (c.into_iter-number-iterator.ensures.into_iter_gives, c.enumerate-number-items.ensures.count, c.enumerate-number-items.ensures.source) (omega (arith, many, c.first_records.ensures.count))),
+        inl (rw (c.into_iter-number-iterator.ensures.into_iter_gives, c.enumerate-number-items.ensures.count, c.enumerate-number-items.ensures.source)
+            (omega (arith, many, c.first_records.ensures.count))),
       ),
       tt,
     )

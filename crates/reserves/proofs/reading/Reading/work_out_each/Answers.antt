@@ -6,5 +6,6 @@ use Rattle.reserves.proofs.reading.Reading.work_out_each.Goals as goal
 
 pub invariant_of-self-clause-right : goal.invariant_of-self-clause-right
 invariant_of-self-clause-right c =
-    let turn = zip_turn c.args.indices.now c.numbers_of-numbers.result c.loop-index.yielded _ _ c.next.new.self _ (search rules) (search rules) c.loop-index.yielded_by _ c.in-Some.is c.next.ensures.steps in
+    let turn = zip_turn c.args.indices.now c.numbers_of-numbers.result c.loop-index.yielded _ _ c.next.new.self _ (search rules) (search rules)
+    c.loop-index.yielded_by _ c.in-Some.is c.next.ensures.steps in
     each-written _ _ _ c.numbers_of-numbers.ensures.numbered _ turn.0 _ (search rules) (search rules) _ (turn.3 0) _ (c.from.ensures ∙ turn.2 0) _ c.remember.ensures
