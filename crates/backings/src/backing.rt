@@ -1,8 +1,8 @@
 // SPDX-License-Identifier: Apache-2.0 OR MIT
 // The backings of an entry by number: backing i is debit i, and behind the debits an asset parameter. It stands in the file at the
-// i-th place of a table, the call of a debit and the parameter itself. The file or its reading, the entry and the number stand side
-// by side: an entry is lent for all its backings, and a reading goes on to the next entry.
-ghost use Rattle.std.specs.Prelude.{◌≡◌, ◌≤◌, length, take, drop};
+// i-th place of a table, the call of a debit and the parameter itself. The file or its facts, the entry and the number stand side
+// by side: an entry is lent for all its backings, and the facts go on to the next entry.
+ghost use Rattle.std.specs.Prelude.{◌≡◌, ◌≤◌, ◌*◌, length, take, drop};
 ghost use Rattle.fields.specs.Field.{fields, front, part};
 ghost use Rattle.walking.specs.Walking.{peel, receiver};
 ghost use Rattle.walking.specs.Table.{placed_at};
@@ -14,7 +14,6 @@ ghost use Rattle.fundings.specs.FundingTokens.{funding_token};
 ghost use Rattle.fundings.specs.Fundings.{funding_number};
 ghost use Rattle.entries.specs.Entered.{entry_of};
 ghost use Rattle.guards.specs.Payouts.{payout_token};
-ghost use Rattle.reserves.specs.Reading.{file_of, Same};
 ghost use Rattle.backings.specs.Tables.{Admitted, debit_at, amount_in, token_at};
 
 use bounds::Amount;
@@ -23,7 +22,6 @@ use fields::front::part_of;
 use fundings::facts::Facts;
 use guards::payout::{part_at, payout_token};
 use model::name_of;
-use reserves::reading::Reading;
 use tokens::entry::entry_at;
 use tokens::number::{token_of, tokens_number};
 use tokens::set::tokens_differ;
@@ -50,16 +48,20 @@ pub fn backing_amount<'a>(file: &'a [u8], entry: &Entry, i: usize) -> Amount<'a>
 }
 
 // The number of the token that the entry at a place admits. It is worked out where a match first asks for it, and then remembered.
-fn admitted_number(reading: &mut Reading, place: usize, admitted: &mut Option<usize>) -> usize
-    requires inside { place ≤ length (file_of reading.old) }
-    requires admits { Admitted (file_of reading.old) place admitted.old }
-    ensures same { Same reading.old reading.new }
-    ensures facts { reading.new.facts.now ≡ reading.old.facts.now }
-    ensures number { result ≡ tokens_number (file_of reading.old) (placed_at (file_of reading.old) place) }
-    ensures admits { Admitted (file_of reading.old) place admitted.new }
+fn admitted_number(
+    facts: &Facts,
+    place: usize,
+    admitted: &mut Option<usize>,
+    scratch: &mut [u16],
+) -> usize
+    requires inside { place ≤ length facts.now.file.now }
+    requires room { length facts.now.file.now ≤ 3 * length scratch.old }
+    requires admits { Admitted facts.now.file.now place admitted.old }
+    ensures number { result ≡ tokens_number facts.now.file.now (placed_at facts.now.file.now place) }
+    ensures admits { Admitted facts.now.file.now place admitted.new }
 {
-    let entry = entry_at(reading.facts.file, place);
-    *admitted.get_or_insert_with(|| tokens_number(&entry, reading.scratch))
+    let entry = entry_at(facts.file, place);
+    *admitted.get_or_insert_with(|| tokens_number(&entry, scratch))
 }
 
 // The token of a debit: the one that funds the map of debit number i.
@@ -81,27 +83,27 @@ fn parameter_token(file: &[u8], place: usize, number: usize) -> &[u8]
 }
 
 // Whether the token of backing number i and that of the payout at the front of s are both known and differ. A backing's token takes
-// long to work out, so that it is asked only of a backing that matches. The one that the entry admits is then remembered.
+// long to work out, so that it is asked only of a backing that matches. The one that the entry admits is then remembered. What is
+// remembered of state fields does not matter here, so that the facts and the scratch table are lent, and not a Reading.
 pub fn tokens_conflict(
-    reading: &mut Reading,
+    facts: &Facts,
     entry: &Entry,
     i: usize,
     s: &[u8],
     admitted: &mut Option<usize>,
+    scratch: &mut [u16],
 ) -> bool
-    requires inside { entry.now.place ≤ length (file_of reading.old) }
-    requires admits { Admitted (file_of reading.old) entry.now.place admitted.old }
-    ensures same { Same reading.old reading.new }
-    ensures facts { reading.new.facts.now ≡ reading.old.facts.now }
-    ensures answer { result ≡ differ (token_at (file_of reading.old) entry.now i) (payout_token (front s.now)) }
-    ensures admits { Admitted (file_of reading.old) entry.now.place admitted.new }
+    requires inside { entry.now.place ≤ length facts.now.file.now }
+    requires admits { Admitted facts.now.file.now entry.now.place admitted.old }
+    requires room { length facts.now.file.now ≤ 3 * length scratch.old }
+    ensures answer { result ≡ differ (token_at facts.now.file.now entry.now i) (payout_token (front s.now)) }
+    ensures admits { Admitted facts.now.file.now entry.now.place admitted.new }
 {
     if i < entry.debits {
-        let token = debit_token(reading.facts, entry, i);
+        let token = debit_token(facts, entry, i);
         return tokens_differ(token, payout_token(s));
     }
-    let file = reading.facts.file;
-    let number = admitted_number(reading, entry.place, admitted);
-    let token = parameter_token(file, entry.place, number);
+    let number = admitted_number(facts, entry.place, admitted, scratch);
+    let token = parameter_token(facts.file, entry.place, number);
     tokens_differ(token, payout_token(s))
 }

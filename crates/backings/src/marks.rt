@@ -6,12 +6,12 @@ ghost use Rattle.fields.specs.Field.{front};
 ghost use Rattle.guards.specs.Payouts.{payout_amount};
 ghost use Rattle.bounds.specs.Backing.{backing_field};
 ghost use Rattle.backings.specs.Tables.{tested_amount, passes, asked_by, equal_to, first_free, any_taken};
-ghost use Rattle.backings.specs.Marked.{all_free, mark_at, without, with_used};
+ghost use Rattle.backings.specs.Marked.{all_free, mark_at, without, with_used, used_of};
 
 use super::backing::backing_amount;
-use arrayvec::ArrayVec;
 use bounds::{Amount, backing_eq, bounded_by};
 use entries::entry::Entry;
+use fields::bytes::keep;
 use guards::payout::payout_amount;
 use walking::peel::peel;
 
@@ -45,11 +45,13 @@ impl Test {
     }
 }
 
-// Backings by number, at most 64, and the state fields that are used, at most one for each of 64 payouts.
-#[derive(Drop)]
+// Backings by number, at most 64, and the state fields that are used, at most one for each of 64 payouts: so many as are counted
+// beside them, and no ArrayVec, of which there is no copy, as there is of the marks.
+#[derive(Clone, Copy)]
 pub struct Marks {
     pub free: [bool; 64],
-    pub used: ArrayVec<usize, 64>,
+    pub used: [usize; 64],
+    pub uses: usize,
 }
 
 impl Marks {
@@ -60,7 +62,8 @@ impl Marks {
     {
         Marks {
             free: [true; 64],
-            used: ArrayVec::new(),
+            used: [0; 64],
+            uses: 0,
         }
     }
 
@@ -95,16 +98,17 @@ impl Marks {
     pub fn take_reserve(&mut self, index: usize)
         ensures { self.new ≡ with_used self.old index }
     {
-        if !self.used.is_full() {
-            self.used.push(index);
+        if self.uses < self.used.len() {
+            self.used[self.uses] = index;
+            self.uses += 1;
         }
     }
 
     // Whether the state field with an index is used.
     pub fn is_used(&self, index: usize) -> bool
-        ensures { result ≡ any (eqb index) self.now.used.items }
+        ensures { result ≡ any (eqb index) (used_of self.now) }
     {
-        self.used.contains(&index)
+        keep(&self.used, self.uses).contains(&index)
     }
 
     // The number of the first free backing that passes a test against the amount of the payout at the front of s.
@@ -121,8 +125,8 @@ impl Marks {
     pub fn is_taken(&self, file: &[u8], entry: &Entry, s: &[u8]) -> bool
         ensures { result ≡ any_taken file.now entry.now self.now (equal_to (payout_amount (front s.now))) }
     {
-        let amount = peel(payout_amount(s));
+        let amount = Test::Equals.tested_amount(payout_amount(s));
         (0..entry.total).any(|i| !self.is_free(i)
-            && backing_eq(backing_amount(file, entry, i), amount))
+            && Test::Equals.passes(backing_amount(file, entry, i), amount))
     }
 }

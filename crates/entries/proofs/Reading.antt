@@ -17,7 +17,7 @@ use Rattle.walking.proofs.Callers.{body-few}
 use Rattle.walking.proofs.Calls.{payout-call, debit-call}
 use Rattle.tokens.specs.Numbers.{Standing}
 use Rattle.entries.specs.Calls.{passes_at, places_where, asset_places}
-use Rattle.entries.specs.Entered.{entry_of, Lent, CallsOf, Read, Entered}
+use Rattle.entries.specs.Entered.{PaidOf, BackedOf, entry_of, Lent, CallsOf, Read, Entered}
 use Rattle.entries.specs.declared.entry.Entry.{Entry}
 use Rattle.entries.proofs.Called.{where-counted, where-place, where-read, payouts-where, debits-where}
 use Rattle.entries.proofs.Naming.{name_at, names-read, front-stays, name-there}
@@ -56,49 +56,72 @@ module _ (file : List ℕ) (place : ℕ) (calls : List ℕ) (c : CallsOf file pl
         ap length c.listed,
       )
 
-  module _ (debits : Table ℕ) (l : Listed (places_where file is_debit calls) (replicate 64 0) 0 debits.items.now debits.count) where
-    pub debits-standing : Standing file place debits.count
-    debits-standing =
-        record {
-          short = c.small;
-          within = c.inside;
-          few = omega (arith, places-few is_debit (replicate 64 0) debits.items.now debits.count l, c.small);
-        }
+  wide : (n : ℕ) → length (replicate {A = ℕ} n 0) ≡ n
+  wide n = length-replicate {A = ℕ} n 0
 
-    module _ (paid : Table ℕ) (p : Listed (places_where file is_payout calls) (replicate 65 0) 0 paid.items.now paid.count)
-        (backed : Table ℕ) (q : Lists (asset_places (place + 3) (parts (front (drop place file)))) debits backed) where
+  -- The payouts
+
+  pub payouts-read : (table : List ℕ) (r : ℕ) → Listed (places_where file is_payout calls) (replicate 65 0) 0 table r → PaidOf file place r table
+  payouts-read table r l =
+      record {
+        many = where-counted file place calls c is_payout payout-call (replicate 65 0) table r l ∙ ap length (payouts-where (placed_at file place));
+        last = λ h. where-place file place calls c is_payout payout-call (replicate 65 0) table r l 64 (omega (arith, wide 65)) h;
+        paid = λ h. where-read file place calls c is_payout payout-call (replicate 65 0) table r l (omega (arith, wide 65, h)) ∙ payouts-where (placed_at file place);
+      }
+
+  -- The backings
+
+  module _ (table : List ℕ) (r : ℕ) (l : Listed (places_where file is_debit calls) (replicate 64 0) 0 table r) where
+    pub debits-standing : Standing file place r
+    debits-standing = record { short = c.small; within = c.inside; few = omega (arith, places-few is_debit (replicate 64 0) table r l, c.small) }
+
+    module _ (last : List ℕ) (k : ℕ) (q : Listed (asset_places (place + 3) (parts (front (drop place file)))) table r last k) where
       -- each asset parameter has one place
-      parameters-counted : backed.count ≡ debits.count + length (asset_params (entry_of file place))
+      parameters-counted : k ≡ r + length (asset_params (entry_of file place))
       parameters-counted =
-          q.listed.count
-          ∙ ap (λ n. debits.count + n) (sym (length-map (asset_places (place + 3) (parts (front (drop place file)))) (name_at file)) ∙ ap length (names-read file place))
+          q.count
+          ∙ ap (λ n. r + n) (sym (length-map (asset_places (place + 3) (parts (front (drop place file)))) (name_at file)) ∙ ap length (names-read file place))
 
-      wide : (n : ℕ) → length (replicate {A = ℕ} n 0) ≡ n
-      wide n = length-replicate {A = ℕ} n 0
-
-      room : backed.count ≤ 64 → debits.count + length (asset_params (entry_of file place)) ≤ length debits.items.now
+      room : k ≤ 64 → r + length (asset_params (entry_of file place)) ≤ length table
       room h =
-          let w : length debits.items.now ≡ 64 = listed-long l ∙ wide 64 in
+          let w : length table ≡ 64 = listed-long l ∙ wide 64 in
           omega (arith, w, h, parameters-counted)
 
-      pub entry-read : (ps : List ℕ) → ps ≡ paid.items.now → (bs : List ℕ) → bs ≡ backed.items.now →
-          Read file (record { place = place; debits = debits.count; total = backed.count; payouts = paid.count; backed = bs; paid = ps })
-      entry-read ps e bs f =
+      pub backings-read : BackedOf file place r k last
+      backings-read =
           record {
-            small = c.small;
-            inside = c.inside;
-            many = where-counted file place calls c is_payout payout-call (replicate 65 0) paid.items.now paid.count p ∙ ap length (payouts-where (placed_at file place));
-            last = λ h. rw e (where-place file place calls c is_payout payout-call (replicate 65 0) paid.items.now paid.count p 64 (omega (arith, wide 65)) h);
-            paid = λ h. rw e
-                (where-read file place calls c is_payout payout-call (replicate 65 0) paid.items.now paid.count p (omega (arith, wide 65, h))
-                ∙ payouts-where (placed_at file place));
-            counted = where-counted file place calls c is_debit debit-call (replicate 64 0) debits.items.now debits.count l ∙ ap length (debits-where (placed_at file place));
+            counted = where-counted file place calls c is_debit debit-call (replicate 64 0) table r l ∙ ap length (debits-where (placed_at file place));
             all = parameters-counted;
-            listed = λ h. rw (f, front-stays file place debits.items.now debits.count backed.items.now backed.count q.listed (room h))
-                (where-read file place calls c is_debit debit-call (replicate 64 0) debits.items.now debits.count l (omega (arith, wide 64, h, parameters-counted))
-                ∙ debits-where (placed_at file place));
-            named = λ h i g. rw f (name-there file place debits.items.now debits.count backed.items.now backed.count q.listed (room h) i (omega (arith, g, parameters-counted)));
+            listed = λ h. rw (front-stays file place table r last k q (room h))
+                (where-read file place calls c is_debit debit-call (replicate 64 0) table r l (omega (arith, wide 64, h, parameters-counted)) ∙ debits-where (placed_at file place));
+            named = λ h i g. name-there file place table r last k q (room h) i (omega (arith, g, parameters-counted));
           }
+
+  -- Both together
+
+  module _ (debits : Table ℕ) (l : Listed (places_where file is_debit calls) (replicate 64 0) 0 debits.items.now debits.count)
+      (paid : Table ℕ) (p : Listed (places_where file is_payout calls) (replicate 65 0) 0 paid.items.now paid.count)
+      (backed : Table ℕ) (q : Lists (asset_places (place + 3) (parts (front (drop place file)))) debits backed) where
+    of-payouts : PaidOf file place paid.count paid.items.now
+    of-payouts = payouts-read paid.items.now paid.count p
+
+    of-backings : BackedOf file place debits.count backed.count backed.items.now
+    of-backings = backings-read debits.items.now debits.count l backed.items.now backed.count q.listed
+
+    pub entry-read : (ps : List ℕ) → ps ≡ paid.items.now → (bs : List ℕ) → bs ≡ backed.items.now →
+        Read file (record { place = place; debits = debits.count; total = backed.count; payouts = paid.count; backed = bs; paid = ps })
+    entry-read ps e bs f =
+        record {
+          small = c.small;
+          inside = c.inside;
+          many = of-payouts.many;
+          last = λ h. rw e (of-payouts.last h);
+          paid = λ h. rw e (of-payouts.paid h);
+          counted = of-backings.counted;
+          all = of-backings.all;
+          listed = λ h. rw f (of-backings.listed h);
+          named = λ h i g. rw f (of-backings.named h i g);
+        }
 
 -- A table of places, as far as it was filled, by numbers
 

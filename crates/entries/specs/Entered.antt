@@ -30,6 +30,21 @@ pub record CallsOf (file : List ℕ) (place : ℕ) (calls : List ℕ) : Type 0 w
   pub inside : place ≤ length file
   pub listed : calls ≡ places_of Call (body_exprs (placed_at file place))
 
+-- the payouts of the entry at a place: how many, the place of the 65th, and the places of all in walk order, up to 64
+pub record PaidOf (file : List ℕ) (place count : ℕ) (places : List ℕ) : Type 0 where
+  pub many : count ≡ length (payouts (entry_of file place))
+  pub last : 64 < count → get_or places 64 0 ≡ (get_or (body_where is_payout (placed_at file place)) 64 nowhere).place
+  pub paid : count ≤ 64 → fields_at file (take count places) ≡ payouts (entry_of file place)
+
+-- its backings: how many are caller debits, and how many there are; the places of all, up to 64, debits in walk order and
+-- then asset parameters
+pub record BackedOf (file : List ℕ) (place debits_count total : ℕ) (places : List ℕ) : Type 0 where
+  pub counted : debits_count ≡ length (debits (entry_of file place))
+  pub all : total ≡ debits_count + length (asset_params (entry_of file place))
+  pub listed : total ≤ 64 → fields_at file (take debits_count places) ≡ debits (entry_of file place)
+  pub named : total ≤ 64 → (i : ℕ) → i < total → debits_count ≤ i →
+      name_of (front (drop (get_or places i 0) file)) ≡ get_or (asset_params (entry_of file place)) (i - debits_count) []
+
 -- an entry as it is read: how many payouts, the place of the 65th, and the places of all in walk order, up to 64; how many of its
 -- backings are caller debits, and how many there are, and the places of all, up to 64, debits in walk order and then asset parameters
 pub record Read (file : List ℕ) (e : Entry) : Type 0 where

@@ -1,9 +1,9 @@
 -- Going along a row: a step gives the field in front, and what is left behind it is the rest of the row.
-use Rattle.std.proofs.Common.{ℕ, ◌+◌, ◌≡◌, ap, ◌∙◌, true, false, List, [], ◌∷◌, length}
+use Rattle.std.proofs.Common.{ℕ, ◌+◌, ◌-◌, ◌≡◌, refl, ap, ◌∙◌, true, false, List, [], ◌∷◌, map, arith, leb-true, length, length-drop}
 use Rattle.std.proofs.lemmas.Iterator.{YieldsList}
 use Rattle.std.proofs.lemmas.Iterator.Consumers.{YieldsList-from_shown}
-use Rattle.fields.specs.Field.{fields, placed, row, whole, after, front, length_of}
-use Rattle.fields.specs.Row.{shown, left, Step, Steps}
+use Rattle.fields.specs.Field.{Placed, fields, placed, row, whole, after, front, length_of}
+use Rattle.fields.specs.Row.{shown, left, reach, end_of, Step, Steps}
 use Rattle.fields.specs.declared.field.Fields.{Fields}
 use Rattle.fields.specs.declared.field.Field.{Field as Found}
 use Rattle.fields.proofs.Reading.{fields-next, fields-end}
@@ -42,3 +42,21 @@ along-placed = YieldsList-from_shown Steps shown left (λ s t w. ap length (plac
 pub along-row : (s : Fields) → YieldsList Steps (λ p. front p.part.now) s (row (fields s.rest.now))
 along-row =
     YieldsList-from_shown Steps (λ p. front p.part.now) (λ s. row (fields s.rest.now)) (λ s t w. ap length (row-end s.rest.now w)) front-next
+
+-- and with where its part ends, which is where the row ends
+abbrev pub reaching : Fields → List (Placed × ℕ)
+reaching s = map (λ p. (p, end_of s)) (left s)
+
+module _ (s : Fields) (p : Found) (t : Fields) (h : Step s p t) where
+  same-end : end_of t ≡ end_of s
+  same-end =
+      let l : length (after s.rest.now) ≡ length s.rest.now - (3 + length_of s.rest.now) = length-drop (3 + length_of s.rest.now) s.rest.now in
+      rw (h.behind, h.rest) (omega (arith, l, leb-true (3 + length_of s.rest.now) (length s.rest.now) h.there))
+
+  reaching-next : reaching s ≡ (shown p, reach p) ∷ reaching t
+  reaching-next = rw (left-next s p t h, same-end, h.place, h.part) refl
+
+pub along-reaching : (s : Fields) → YieldsList Steps (λ p. (shown p, reach p)) s (reaching s)
+along-reaching =
+    YieldsList-from_shown Steps (λ p. (shown p, reach p)) reaching
+    (λ s t w. ap (λ ps. length {A = Placed × ℕ} (map (λ p. (p, end_of s)) ps)) (placed-end s.rest.now w s.place)) reaching-next

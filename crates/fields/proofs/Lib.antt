@@ -12,3 +12,4 @@ pub mod Examples
 pub mod InARow
 pub mod EndOf
 pub mod Gathering
+pub mod Words

@@ -1,5 +1,6 @@
 -- A number made of a text's bytes.
-use Rattle.std.specs.Prelude.{ℕ, ◌+◌, ◌*◌, ◌/◌, ◌%◌, List, [], ◌∷◌, take}
+use Rattle.std.specs.Prelude.{ℕ, ◌+◌, ◌*◌, ◌/◌, ◌%◌, cond, List, [], ◌∷◌, leb, length, take}
+use Rattle.std.specs.Int.{w64, from_le_bytes}
 
 -- behind bytes with the number n
 unfoldable pub number_from : (base n : ℕ) → List ℕ → ℕ
@@ -13,3 +14,7 @@ text_number base s = number_from base 0 s
 -- of two bytes: the upper half of that of the first bytes, in one base
 abbrev pub short_number : List ℕ → ℕ
 short_number s = text_number 1640531527 (take 32 s) / 65536
+
+-- the first eight bytes of a text as a number, least significant first; 0 where there are fewer
+unfoldable pub front_word : List ℕ → ℕ
+front_word s = cond (leb 8 (length s)) (from_le_bytes w64 (take 8 s)) 0

@@ -44,3 +44,32 @@ impl<'a, T: Copy> Table<'a, T> {
         keep(self.items, self.count)
     }
 }
+
+// What is listed in a table that nothing is listed in any more: it is only read, and can be copied.
+#[derive(Clone, Copy)]
+pub struct TableView<'a, T> {
+    pub items: &'a [T],
+    pub count: usize,
+}
+
+impl<'a, T: Copy> Table<'a, T> {
+    // The table to be read.
+    pub fn into_view(self) -> TableView<'a, T>
+        ensures items { result.items.now ≡ self.entry.items.now }
+        ensures count { result.count ≡ self.entry.count }
+    {
+        let count = self.count;
+        let items = self.items;
+        TableView { items, count }
+    }
+}
+
+impl<'a, T: Copy> TableView<'a, T> {
+    // Those that found room.
+    pub fn listed(self) -> &'a [T]
+        ensures { result.now ≡ take self.entry.count self.entry.items.now }
+    {
+        let items = self.items;
+        keep(items, self.count)
+    }
+}

@@ -15,7 +15,7 @@ use Rattle.fields.specs.Field.{Field, front, part}
 use Rattle.fields.specs.Number.{short_number}
 use Rattle.fields.specs.Table.{Listed, fields_at}
 use Rattle.fields.specs.declared.named.Named.{Named}
-use Rattle.fields.specs.declared.table.Table.{Table}
+use Rattle.fields.specs.declared.table.TableView.{TableView}
 use Rattle.walking.specs.Walking.{ident, receiver, exprs, body_exprs, peel, asset_amount_backer}
 use Rattle.walking.specs.Assets.{Assets}
 use Rattle.walking.proofs.Assets.{any-listed}
@@ -175,7 +175,7 @@ module _ (file : List ℕ) (n : ℕ) (h : length file ≤ 32768) (old : List Fun
   entry = front (drop n file)
 
   -- one without asset parameters
-  module _ (assets : Table Named) (a : Assets (drop n file) assets) (z : assets.count ≡ 0) where
+  module _ (assets : TableView Named) (a : Assets (drop n file) assets) (z : assets.count ≡ 0) where
     no_call : (m : List ℕ) (f : Field) → is_funding m entry f ≡ false
     unfolding is_funding_call is_inflow
     no_call m f =

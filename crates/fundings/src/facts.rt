@@ -6,7 +6,11 @@ ghost use Rattle.fundings.specs.Fundings.{EachMap};
 
 use super::ledger::{Fundings, list_fundings, number_of_map};
 use super::token::ledger_funding_number;
+use fields::bytes::keep;
 use tokens::number::token_of;
+
+// The most bytes of a file that question 1 allows.
+const MOST_BYTES: usize = 32768;
 
 // How many state fields something is remembered of: a file that passes question 1 has no more, since one takes 11 bytes at least.
 pub const STATE_FIELDS: usize = 2979;
@@ -27,16 +31,20 @@ pub struct Facts<'a> {
     ghost funded: { listed ≡ true → EachMap file.now maps.items },
 }
 
-// The facts at the start, when nothing is worked out yet. What makes them has to ask what their type says of the file.
+// The facts at the start, when nothing is worked out yet. A file that is longer than question 1 allows has none: they are then those
+// of no bytes, so that this asks nothing of the file.
 pub fn nothing_known(file: &[u8]) -> Facts
-    requires { length file.now ≤ 32768 }
-    ensures file { result.file ≡ file.entry }
+    ensures file { length file.now ≤ 32768 → result.file ≡ file.entry }
     ensures listed { result.listed ≡ false }
     ensures maps { result.maps.items ≡ [] }
     ensures held { result.held ≡ replicate state_fields not_yet }
 {
     Facts {
-        file: file,
+        file: if file.len() <= MOST_BYTES {
+            file
+        } else {
+            keep(file, 0)
+        },
         listed: false,
         maps: Fundings::new(),
         held: [NOT_YET; STATE_FIELDS],

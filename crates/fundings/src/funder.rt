@@ -4,15 +4,15 @@ ghost use Rattle.std.specs.Prelude.{◌≡◌, drop};
 ghost use Rattle.walking.specs.Assets.{Assets};
 
 use fields::named::Named;
-use fields::table::Table;
+use fields::table::TableView;
 use tokens::entry::EntryPlace;
 use walking::parameters::list_assets;
 
 // Where it stands, and its asset parameters.
-#[derive(Drop)]
+#[derive(Clone, Copy)]
 pub struct Funder<'a, 't> {
     pub entry: EntryPlace<'a>,
-    pub assets: Table<'t, Named>,
+    pub assets: TableView<'t, Named>,
     ghost listed: { Assets (drop entry.place entry.file.now) assets },
 }
 
@@ -22,6 +22,6 @@ pub fn list_funder<'a, 't>(entry: &EntryPlace<'a>, assets: &'t mut [Named]) -> F
 {
     Funder {
         entry: *entry,
-        assets: list_assets(entry.part(), assets),
+        assets: list_assets(entry.part(), assets).into_view(),
     }
 }

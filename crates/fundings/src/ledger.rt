@@ -12,7 +12,8 @@ ghost use Rattle.fundings.specs.Fundings.{is_funding_call, is_map, number_of_map
 ghost use Rattle.fundings.specs.Fundings.{Joins, EntryJoins, EachMap};
 ghost use Rattle.fundings.specs.Funder.{entry_of, CallsJoin};
 
-use super::funder::{Funder, list_funder};
+pub use super::funder::Funder;
+use super::funder::list_funder;
 use arrayvec::{ArrayVec, CapacityError};
 use fields::bytes::{same_bytes, skip};
 use fields::front::part_of;

@@ -24,7 +24,7 @@ use Rattle.fields.specs.Field.Fields.{end, next}
 use Rattle.fields.proofs.Reading.{front-none}
 use Rattle.fields.proofs.Places.{front-size, parts-inside, size-least}
 use Rattle.fields.proofs.Inside.{Stands, parts-stand}
-use Rattle.fields.proofs.Tables.{listed-none, listed-front}
+use Rattle.fields.proofs.Tables.{listed-none, listed-front, listed-long}
 use Rattle.fields.proofs.Gathering.{Gathers}
 use Rattle.model.specs.Model.{body}
 use Rattle.walking.specs.Walking.{peel, peel_first}
@@ -144,6 +144,12 @@ module _ (amount : Field) (file : List ℕ) (place : ℕ) where
       go false w = rw (front-none (drop place file) w) (omega arith)
 
   -- what list_lowerings lists finds room in a table of one for each nine bytes of the file
+  pub lowerings-room : (table last : List Named) (count : ℕ) → Listed (lowering_numbers amount (placed_at file place)) table 0 last count →
+      length file ≤ 9 * length table → count ≤ length last
+  unfolding lowering_numbers
+  lowerings-room table last count l k =
+      let w = listed-long l in omega (arith, w, l.count, few-lowerings amount (place + 3) (parts (front (drop place file))), parts-few, k)
+
   pub lowerings-listed : (table : List Named) (last : Table Named) → Listed (lowering_numbers amount (placed_at file place)) table 0 last.items.now last.count →
       length file ≤ 9 * length table → (ls : List Named) → ls ≡ take last.count last.items.now → ls ≡ lowering_numbers amount (placed_at file place)
   unfolding lowering_numbers

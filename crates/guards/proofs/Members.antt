@@ -14,7 +14,7 @@ use Rattle.fields.specs.Field.Field.{field}
 use Rattle.fields.specs.Field.Fields.{end, next}
 use Rattle.fields.proofs.Reading.{front-none}
 use Rattle.fields.proofs.Places.{front-size}
-use Rattle.fields.proofs.Tables.{listed-front}
+use Rattle.fields.proofs.Tables.{listed-front, listed-long}
 use Rattle.walking.specs.Walking.{walk, walk_parts, without_places, ident, asset_amount_backer, asset_params}
 use Rattle.walking.specs.Table.{places_of}
 use Rattle.walking.proofs.Callers.{expression-few, expression-read}
@@ -95,6 +95,10 @@ members-few s = go (whole s) refl
     go : (w : Bool) → whole s ≡ w → 3 * length (places_of Member (walk 0 (front s))) ≤ length s
     go true w = omega (arith, few, front-size s w, leb-true (3 + length_of s) (length s) w)
     go false w = rw (front-none s w) (omega arith)
+
+pub members-room : (s table members : List ℕ) (count : ℕ) → Listed (places_of Member (walk 0 (front s))) table 0 members count →
+    length s ≤ 3 * length table → count ≤ length members
+members-room s table members count l k = let w = listed-long l in omega (arith, w, l.count, members-few s, k)
 
 pub members-read : (s table : List ℕ) (last : Table ℕ) → Listed (places_of Member (walk 0 (front s))) table 0 last.items.now last.count →
     length s ≤ 3 * length table → length s ≤ 32768 → (members : List ℕ) → members ≡ take last.count last.items.now → fields_at s members ≡ members_in (front s)

@@ -10,7 +10,7 @@ ghost use Rattle.guards.specs.Members.{members_in, member_inflow};
 use fields::bytes::skip;
 use fields::front::tag_of;
 use fields::named::Named;
-use fields::table::Table;
+use fields::table::TableView;
 use tags::{MEMBER, is_expression};
 use tokens::inflow::is_listed_inflow;
 use walking::parameters::{has_listed_asset, list_assets};
@@ -21,7 +21,7 @@ const ASSETS: usize = 64;
 
 // Whether one of the members in the expression at the front of amount, all of which a table has, is an asset parameter's
 // `p.amount`. Another table has the asset parameters.
-fn has_inflow(entry: &[u8], assets: &Table<Named>, amount: &[u8], members: &[u16]) -> bool
+fn has_inflow(entry: &[u8], assets: &TableView<Named>, amount: &[u8], members: &[u16]) -> bool
     requires assets { Assets entry.now assets.now }
     requires members { fields_at amount.now members.now ≡ members_in (front amount.now) }
     ensures { result ≡ member_inflow (front entry.now) (front amount.now) }
@@ -39,7 +39,7 @@ pub fn contains_inflow(entry: &[u8], amount: &[u8], scratch: &mut [u16]) -> bool
     ensures { result ≡ contains_inflow (front entry.now) (front amount.now) }
 {
     let mut named = [Named::default(); ASSETS];
-    let assets = list_assets(entry, &mut named);
+    let assets = list_assets(entry, &mut named).into_view();
     if has_listed_asset(entry, &assets, &[]) {
         return is_expression(tag_of(amount));
     }

@@ -20,6 +20,7 @@ use Rattle.reserves.specs.Reserves.{reserve_bounding_payout}
 use Rattle.reserves.specs.States.{state_index}
 use Rattle.reserves.specs.Covers.{index_in}
 use Rattle.backings.specs.Tables.{token_at, equal_to, bounded_by, asked_by, first_free, any_taken}
+use Rattle.backings.specs.Marked.{used_of}
 use Rattle.backings.specs.declared.marks.Test.{Test}
 use Rattle.backings.specs.declared.marks.Test.TheVariants.{Equals, Bounds}
 use Rattle.backings.specs.declared.marks.Marks.{Marks as Coded}
@@ -215,11 +216,11 @@ module _ (file : List ℕ) (p : Payout) (pass : Pass) (w : Ready file p pass) wh
   -- a reserve
   used-coded : (i : ℕ) → coded (take_reserve marks i) ≡ reserve_at pass.marks i
   unfolding take_reserve reserve_at marks_of coded
-  used-coded i = go (any (eqb i) pass.marks.used.items) refl
+  used-coded i = go (any (eqb i) (used_of pass.marks)) refl
     where
-      go : (b : Bool) → any (eqb i) pass.marks.used.items ≡ b → coded (take_reserve marks i) ≡ reserve_at pass.marks i
-      go true h = rw (any-reverse (eqb i) pass.marks.used.items, h)
-      go false h = rw (any-reverse (eqb i) pass.marks.used.items, h)
+      go : (b : Bool) → any (eqb i) (used_of pass.marks) ≡ b → coded (take_reserve marks i) ≡ reserve_at pass.marks i
+      go true h = rw (any-reverse (eqb i) (used_of pass.marks), h)
+      go false h = rw (any-reverse (eqb i) (used_of pass.marks), h)
 
   abbrev covering : Option (List ℕ)
   covering = reserve_bounding_payout model entry (asked_amount file en.paid k) (asked_token file en.paid k)
@@ -248,7 +249,7 @@ module _ (file : List ℕ) (p : Payout) (pass : Pass) (w : Ready file p pass) wh
             j ∙ sym (used-coded i) ∙ rw z (sym (ap coded (reserve-step model entry marks payout n (asked-for ∙ o))))
 
 -- a reserve that is used, and one that is not
-module _ (m : Coded) (i : ℕ) (b : Bool) (e : b ≡ any (eqb i) m.used.items) where
+module _ (m : Coded) (i : ℕ) (b : Bool) (e : b ≡ any (eqb i) (used_of m)) where
   pub reserve-used : b ≡ true → Err ReserveUsed ≡ reserve_at m i
   unfolding reserve_at
   reserve-used h = rw (← e, h)

@@ -1,9 +1,9 @@
 -- The marks that the code hands back stand for those of the definition: a backing that is taken loses its mark and joins the
 -- taken ones, a reserve joins the used ones, and the order of the taken amounts makes no difference to the answer.
-use Rattle.std.proofs.Common.{ℕ, ◌≤◌, ◌<◌, ◌≡◌, refl, sym, ap, ◌∙◌, Bool, true, false, ◌||◌, List, [], ◌∷◌, arith, lt-ltb, length, get_or}
+use Rattle.std.proofs.Common.{ℕ, ◌≤◌, ◌<◌, ◌≡◌, refl, sym, ap, ◌∙◌, Bool, true, false, ◌||◌, List, [], ◌∷◌, reverse, arith, lt-ltb, length, get_or}
 use Rattle.std.proofs.Common.{get_or-set_other}
 use lib.ListN.{get_or-replicate}
-use Rattle.std.proofs.lemmas.List.{reverse-append}
+use Rattle.std.proofs.lemmas.List.{reverse-append, take_more_set, length-set, length-replicate}
 use Rattle.std.proofs.Common.{Some}
 use Rattle.laws.specs.Numbers.{chosen_by, first_from}
 use Rattle.laws.specs.Lists.{any, remove_first}
@@ -11,7 +11,7 @@ use Rattle.laws.proofs.Truths.{and_left}
 use Rattle.laws.proofs.Chosen.{chosen_at, Cleared, first-true, remove-chosen, taken-chosen, cleared-mark, all-chosen, none-chosen}
 use Rattle.fields.specs.Field.{Field, Fields}
 use Rattle.entries.specs.declared.entry.Entry.{Entry}
-use Rattle.backings.specs.Marked.{mark_at, free_at, taken_at, all_free, uses, without, with_used}
+use Rattle.backings.specs.Marked.{mark_at, free_at, taken_at, all_free, uses, used_of, without, with_used}
 use Rattle.entries.specs.Entered.{Entered}
 use Rattle.backings.specs.Tables.{first_free}
 use Rattle.backings.specs.declared.marks.Marks.{Marks as Coded}
@@ -67,6 +67,7 @@ module _ (file : List ℕ) (en : Entry) (t : Entered file en) (m : Coded) (s : M
       free = ap (remove_first tests) v.free ∙ remove-chosen no_backing (free_at m) (free_at (without m i)) tests (backings_of file en.place) i first inside now-cleared;
       taken = taken-same;
       used = v.used;
+      room = v.room;
     }
 
   -- a reserve is used
@@ -76,7 +77,8 @@ module _ (file : List ℕ) (en : Entry) (t : Entered file en) (m : Coded) (s : M
     reserve-taken = rw (with_used, lt-ltb (uses m) 64 h) (record {
       free = v.free;
       taken = v.taken;
-      used = ap (λ l. i ∷ l) v.used ∙ sym (reverse-append m.used.items (i ∷ []));
+      used = ap (λ l. i ∷ l) v.used ∙ sym (ap reverse (take_more_set m.used m.uses i (omega (arith, v.room, h))) ∙ reverse-append (used_of m) (i ∷ []));
+      room = length-set m.used m.uses i ∙ v.room;
     })
 
 -- At the start every backing is free
@@ -99,4 +101,5 @@ module _ (model : Fields) (entry : Field) (few : length (backings model entry) �
     free = sym all-free;
     taken = λ test. ap (λ l. any test (amounts l)) (sym none-taken);
     used = refl;
+    room = length-replicate {A = ℕ} 64 0;
   }

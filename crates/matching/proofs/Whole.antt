@@ -1,6 +1,6 @@
 -- The answer for a payout, with the marks after it: each way that the definition goes, the code's answer is the same with the
 -- marks in any order, and the marks that the code hands back stand for the definition's.
-use Rattle.std.proofs.Common.{ℕ, ◌+◌, ◌-◌, ◌≤◌, ◌<◌, ◌≡◌, refl, sym, ap, ◌∙◌, Bool, true, false, List, [], ◌∷◌, arith, length-append, ltb-false, eqb, ltb}
+use Rattle.std.proofs.Common.{ℕ, ◌+◌, ◌-◌, ◌≤◌, ◌<◌, ◌≡◌, refl, sym, ap, ◌∙◌, Bool, true, false, List, arith, ltb-false, eqb, ltb}
 use Rattle.std.proofs.Common.{Option}
 use mathlib.Core.Bool.{false≢true}
 use Rattle.std.proofs.Common.{None, Some}
@@ -222,7 +222,7 @@ unfolding with_used
 with-uses m i = go (ltb (uses m) 64) refl
   where
     go : (b : Bool) → ltb (uses m) 64 ≡ b → uses (with_used m i) ≤ uses m + 1
-    go true e = rw (e, length-append m.used.items (i ∷ [])) (omega arith)
+    go true e = rw e (omega arith)
     go false e = rw e (omega arith)
 
 uses-after : (m : Coded) (count : ℕ) (c : Cover) → uses (after_cover m count c) ≤ uses m + 1

@@ -4,7 +4,7 @@ use Rattle.laws.specs.Lists.{any}
 use Rattle.fields.specs.Field.{Field, Fields, fields}
 use Rattle.entries.specs.Entered.{entry_of}
 use Rattle.entries.specs.declared.entry.Entry.{Entry}
-use Rattle.backings.specs.Marked.{without, with_used}
+use Rattle.backings.specs.Marked.{without, with_used, used_of}
 use Rattle.backings.specs.declared.marks.Marks.{Marks as Coded}
 use Rattle.backings.specs.declared.marks.Test.{Test}
 use Rattle.backings.specs.declared.marks.Test.TheVariants.{Equals, Bounds}
@@ -109,7 +109,7 @@ next_step Bounds = by_reserve
 
 -- the answer by the reserve at an index, which may be used
 unfoldable pub reserve_at : Coded → ℕ → Result Cover Reason
-reserve_at m i = cond (any (eqb i) m.used.items) (Err ReserveUsed) (Ok (Reserve i))
+reserve_at m i = cond (any (eqb i) (used_of m)) (Err ReserveUsed) (Ok (Reserve i))
 
 -- a step of the definition, for the k-th payout of an entry and the marks that the code's stand for
 abbrev pub at_payout : (Fields → Field → Marks → Field → matching.Answer) → List ℕ → Entry → Coded → ℕ → matching.Answer

@@ -1,7 +1,7 @@
 // SPDX-License-Identifier: Apache-2.0 OR MIT
 // The answer for one payout: a cover or a rejection. The steps are those of the rules, each of which decides or leaves the payout
 // to the next.
-ghost use Rattle.std.specs.Prelude.{◌≡◌, ◌+◌, ◌≤◌, None, unwrap_or};
+ghost use Rattle.std.specs.Prelude.{◌≡◌, ◌+◌, ◌≤◌, None, OnErr, unwrap_or};
 ghost use Rattle.reserves.specs.Reading.{file_of, Same};
 ghost use Rattle.backings.specs.Marked.{all_free, uses};
 ghost use Rattle.backings.specs.Tables.{Admitted};
@@ -73,7 +73,7 @@ fn conflict_at(test: Test) -> Reason
 }
 
 // The pass over the payouts of an entry: the marks, and what is remembered of the token that the entry admits.
-#[derive(Drop)]
+#[derive(Clone, Copy)]
 pub struct Pass {
     pub marks: Marks,
     pub admitted: Option<usize>,
@@ -145,7 +145,14 @@ impl Pass {
         let file = reading.facts.file;
         let part = payout.part(file);
         let i = self.marks.first_free(file, entry, test, part)?;
-        if tokens_conflict(reading, entry, i, part, &mut self.admitted) {
+        if tokens_conflict(
+            reading.facts,
+            entry,
+            i,
+            part,
+            &mut self.admitted,
+            reading.scratch,
+        ) {
             return Some(Err(conflict_at(test)));
         }
         Some(Ok(cover_at(test, entry.debits, i)))
@@ -177,12 +184,13 @@ impl Pass {
         self.by_reserve(payout, reading)
     }
 
-    // The answer for a payout. A cover is taken.
+    // The answer for a payout. A cover is taken; a rejection takes nothing.
     pub fn answer_payout(&mut self, payout: &Payout, reading: &mut Reading) -> Answer
         requires { Ready (file_of reading.old) payout.now self.old }
         ensures same { Same reading.old reading.new }
         ensures answers { AnswersFor (file_of reading.old) payout.now.entry.now self.old.marks payout.now.k result self.new.marks }
         ensures uses { uses self.new.marks ≤ uses self.old.marks + 1 }
+        ensures kept { OnErr result (self.new.marks ≡ self.old.marks) }
         ensures admits { Admitted (file_of reading.old) payout.now.entry.now.place self.new.admitted }
     {
         let cover = self.cover_payout(payout, reading)?;

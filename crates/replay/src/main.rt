@@ -2,6 +2,8 @@
 // Computes the listing of each model file in a list of answers, and compares it with the one that stands there.
 #![tactic(auto)]
 
+ghost use Rattle.std.specs.Prelude.{◌<◌, IfSome};
+
 use listing::lines::listing;
 use std::io::{self, Read};
 
@@ -15,7 +17,9 @@ const MOST_WRITTEN: usize = 65536;
 const MOST_RECORDS: u64 = 65536;
 
 // The length at the front of a part of the list, two bytes, most significant first, and what stands behind it.
-fn split_length(s: &[u8]) -> Option<(usize, &[u8])> {
+fn split_length(s: &[u8]) -> Option<(usize, &[u8])>
+    ensures { IfSome result (λ answer. answer.0 < 65536) }
+{
     let (length, rest) = s.split_first_chunk::<2>()?;
     Some((usize::from(u16::from_be_bytes(*length)), rest))
 }

@@ -1,5 +1,5 @@
 -- The calls of an entry's body are all in the table, and a test that only a call passes needs no others.
-use Rattle.std.proofs.Common.{ℕ, ◌≤◌, ◌≡◌, refl, sym, ◌∙◌, Bool, true, false, cond, ◌&&◌, ◌||◌, List, [], ◌∷◌, Option, None, Some, arith, eqb, length, drop}
+use Rattle.std.proofs.Common.{ℕ, ◌*◌, ◌≤◌, ◌≡◌, refl, sym, ◌∙◌, Bool, true, false, cond, ◌&&◌, ◌||◌, List, [], ◌∷◌, Option, None, Some, arith, eqb, length, take, drop}
 use Rattle.std.specs.Option.{option_map}
 use Rattle.std.proofs.lemmas.Iterator.Adapters.{option_map_id}
 use Rattle.laws.specs.Texts.{same_bytes}
@@ -7,7 +7,7 @@ use Rattle.laws.specs.Lists.{any, filter, find}
 use Rattle.laws.proofs.Truths.{and_left}
 use Rattle.laws.proofs.Lists.{any-first}
 use Rattle.tags.specs.Tag.{Call}
-use Rattle.fields.specs.Table.{fields_at}
+use Rattle.fields.specs.Table.{Listed, fields_at}
 use Rattle.fields.specs.Field.{Field, front, tag, part}
 use Rattle.walking.specs.Walking.{peel, method, is_debit, debits, exprs, body_exprs}
 use Rattle.walking.specs.Table.{placed_at, places_of}
@@ -15,14 +15,23 @@ use Rattle.walking.proofs.Calls.{is_call, debit-call}
 use Rattle.walking.proofs.Callers.{body-read}
 use Rattle.equality.specs.Equality.{expr_eq}
 use Rattle.tokens.specs.Tokens.{is_credit}
+use Rattle.tokens.specs.Numbers.{Standing}
+use Rattle.fundings.proofs.Calls.{room-lent, calls-front}
 use Rattle.reserve_tokens.specs.ReserveTokens.{credited}
 use Rattle.reserve_tokens.specs.Reserving.{with_amount}
 
 -- the calls of an entry stand at the places of those of its body
-pub calls-read : (file : List ℕ) (n : ℕ) → length file ≤ 32768 → (calls : List ℕ) → calls ≡ places_of Call (body_exprs (placed_at file n)) →
+pub calls-there : (file : List ℕ) (n : ℕ) → length file ≤ 32768 → (calls : List ℕ) → calls ≡ places_of Call (body_exprs (placed_at file n)) →
     fields_at file calls ≡ filter (λ f. eqb (tag f) Call) (exprs (front (drop n file)))
 unfolding fields_at
-calls-read file n h calls e = rw e (body-read file n Call (omega (arith, h)))
+calls-there file n h calls e = rw e (body-read file n Call (omega (arith, h)))
+
+-- and so do those that list_body writes into a table of one number for each three bytes, which has room for all
+pub calls-read : (file : List ℕ) (n j : ℕ) → Standing file n j → (table calls : List ℕ) (count : ℕ) →
+    Listed (places_of Call (body_exprs (placed_at file n))) table 0 calls count → length file ≤ 3 * length table →
+    fields_at file (take count calls) ≡ filter (λ f. eqb (tag f) Call) (exprs (front (drop n file)))
+calls-read file n j h table calls count l k =
+    calls-there file n h.short (take count calls) (calls-front file n table calls count l (room-lent file n table calls count l k))
 
 -- only calls are of the two kinds
 credit-call : (f : Field) → is_credit f ≡ true → is_call f ≡ true

@@ -18,7 +18,7 @@ use Rattle.reserve_tokens.specs.declared.raise.Raising.{Raising}
 use Rattle.reserve_tokens.specs.ReserveTokens.{credited}
 use Rattle.reserve_tokens.specs.Reserving.{with_amount}
 use Rattle.reserve_tokens.specs.Numbers.{only_number, guard_numbers, debit_number, raise_number, numbers_in}
-use Rattle.reserve_tokens.proofs.Called.{calls-read, credited-any, debit-found, any-placed, find-placed}
+use Rattle.reserve_tokens.proofs.Called.{calls-there, credited-any, debit-found, any-placed, find-placed}
 
 -- The number of a raise
 
@@ -31,7 +31,7 @@ module _ (en : Raising) (v : Field) (calls : List ℕ) (l : calls ≡ take en.ca
   entry = front (drop en.place file)
 
   called : fields_at file calls ≡ filter is_call (exprs entry)
-  called = calls-read file en.place en.facts.now.short calls (l ∙ en.called)
+  called = calls-there file en.place en.facts.now.short calls (l ∙ en.called)
 
   module _ (b : Bool) (e : b ≡ any (λ call. with_amount is_credit v (front (drop call file))) calls) where
     credited-is : b ≡ credited entry v

@@ -15,7 +15,7 @@ ghost use Rattle.reserve_tokens.specs.Numbers.{guard_numbers, only_number, debit
 use super::calls::{first_debit, is_credited};
 use fields::bytes::skip;
 use fields::named::Named;
-use fields::table::Table;
+use fields::table::TableView;
 use fundings::facts::Facts;
 use tokens::inflow::is_listed_inflow;
 use tokens::number::token_of;
@@ -24,13 +24,13 @@ use walking::shape::receiver;
 
 // An entry that raises a state field, of the file that the facts are of: its place, the number of the token that its only such
 // guard names, the places of the calls of its body, and its asset parameters.
-#[derive(Drop)]
+#[derive(Clone, Copy)]
 pub struct Raising<'a> {
     pub facts: &'a Facts<'a>,
     pub place: usize,
     pub guard: usize,
-    pub calls: Table<'a, u16>,
-    pub assets: Table<'a, Named>,
+    pub calls: TableView<'a, u16>,
+    pub assets: TableView<'a, Named>,
     ghost guarded: { guard ≡ only_number (guard_numbers facts.now.file.now (placed_at facts.now.file.now place)) },
     ghost called: { take calls.count calls.items.now ≡ places_of Call (body_exprs (placed_at facts.now.file.now place)) },
     ghost listed: { Assets (drop place facts.now.file.now) assets },

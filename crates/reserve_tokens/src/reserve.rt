@@ -70,8 +70,8 @@ fn list_raising<'a>(
         facts: facts,
         place: place,
         guard: only_guard_number(facts.file, place),
-        calls: list_body(facts.file, place, CALL, scratch),
-        assets: list_assets(skip(facts.file, place), assets),
+        calls: list_body(facts.file, place, CALL, scratch).into_view(),
+        assets: list_assets(skip(facts.file, place), assets).into_view(),
     }
 }
 

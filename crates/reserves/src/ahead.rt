@@ -1,7 +1,7 @@
 // SPDX-License-Identifier: Apache-2.0 OR MIT
 // The state fields of the guards ahead of one whose turn it is: they are listed by their numbers, and the tokens of
 // those of which nothing is remembered yet are worked out together, since an entry is then gone through once for all of them.
-ghost use Rattle.std.specs.Prelude.{◌≡◌, ◌≤◌, ◌<◌, length, IfSome};
+ghost use Rattle.std.specs.Prelude.{◌≡◌, ◌≤◌, ◌<◌, ◌+◌, length, IfSome};
 ghost use Rattle.fields.specs.Field.{front};
 ghost use Rattle.reserves.specs.Reading.{file_of, Same};
 ghost use Rattle.reserves.specs.Covers.{lowered_number, Ahead};
@@ -59,7 +59,9 @@ pub fn list_ahead<'a, const ROOM: usize>(
 }
 
 // Notes the state field of a number, if nothing is remembered of it yet and it is not noted.
-fn note_unknown(index: u16, facts: &Facts, unknown: &mut ArrayVec<u16, FIELDS>) {
+fn note_unknown(index: u16, facts: &Facts, unknown: &mut ArrayVec<u16, FIELDS>)
+    ensures { length unknown.new.items ≤ length unknown.old.items + 1 }
+{
     if STATE_FIELDS <= usize::from(index) {
         return;
     }

@@ -24,6 +24,8 @@ impl<'a, 't> Reading<'a, 't> {
         requires room { length facts.old.file.now ≤ 3 * length scratch.old }
         requires right { FactsOf facts.old }
         ensures same_facts { result.facts.ghost_name ≡ facts.entry.ghost_name }
+        ensures same_scratch { result.scratch.ghost_name ≡ scratch.entry.ghost_name }
+        ensures long { length result.scratch.now ≡ length scratch.old }
         ensures same_file { file_of result ≡ facts.old.file.now }
     {
         Reading { facts, scratch }

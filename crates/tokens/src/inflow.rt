@@ -8,7 +8,7 @@ ghost use Rattle.tokens.specs.Tokens.{is_inflow, is_credit, is_funding};
 use fields::bytes::same_bytes;
 use fields::front::part_of;
 use fields::named::Named;
-use fields::table::Table;
+use fields::table::TableView;
 use walking::backer::asset_amount_backer;
 use walking::parameters::{has_asset_parameter, has_listed_asset};
 use walking::peel::peel;
@@ -22,7 +22,7 @@ pub fn is_inflow(entry: &[u8], s: &[u8]) -> bool
 }
 
 // The same by the table in which the asset parameters of the entry are listed.
-pub fn is_listed_inflow(entry: &[u8], assets: &Table<Named>, s: &[u8]) -> bool
+pub fn is_listed_inflow(entry: &[u8], assets: &TableView<Named>, s: &[u8]) -> bool
     requires { Assets entry.now assets.now }
     ensures { result ≡ is_inflow (front entry.now) (front s.now) }
 {

@@ -20,7 +20,7 @@ use Rattle.walking.specs.Table.{placed_at}
 use Rattle.questions.specs.Questions.{at_most}
 use Rattle.entries.specs.Calls.{body_where}
 use Rattle.claim.specs.Verdict.{refused, entry_at, ask_entry, entry_verdict}
-use Rattle.verdict.specs.Coded.{placed_verdict}
+use Rattle.verdict.specs.Coded.{placed_verdict, backed_verdict}
 use Rattle.verdict.specs.Place.{place_of_entry, no_entry}
 
 -- Question 9: the entry that is shown
@@ -133,3 +133,7 @@ module _ (model : Fields) (e : Placed) (lent : ℕ) where
   pub tenth : (p : Placed) (ps : List Placed) → drop 64 (body_where is_payout e) ≡ p ∷ ps → placed_verdict model e lent ≡ refused 10 p.place
   unfolding placed_verdict at_most
   tenth p ps k = cc k
+
+  pub not-tenth : drop 64 (body_where is_payout e) ≡ [] → placed_verdict model e lent ≡ backed_verdict model e lent
+  unfolding placed_verdict backed_verdict at_most
+  not-tenth k = cc k

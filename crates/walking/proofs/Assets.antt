@@ -19,6 +19,7 @@ use Rattle.fields.specs.declared.field.Field.{Field as Found}
 use Rattle.fields.specs.declared.field.Fields.{Fields as Iterator}
 use Rattle.fields.specs.declared.named.Named.{Named}
 use Rattle.fields.specs.declared.table.Table.{Table}
+use Rattle.fields.specs.declared.table.TableView.{TableView}
 use Rattle.fields.proofs.Gathering.{Gathers}
 use Rattle.fields.proofs.Places.{size-least}
 use Rattle.fields.proofs.Tables.{lists-none, listed-front, listed-long}
@@ -98,8 +99,11 @@ module _ (all x : Iterator) (g : all ≡ x) (y s : List ℕ) (r : x.rest.now ≡
   entry-listed e t none u i j p = rw (← e) (rw (g, r, z, i, j) at p.listed)
 
 -- where there is room for all, the table holds them in front
-pub assets-listed : (s x : List ℕ) (t : List Named) (u : Table Named) → x ≡ s → Listed (named_assets (front x)) t 0 u.items.now u.count → Assets s u
-assets-listed s x t u e p h = listed-front (named_assets (front x)) t u.items.now u.count p (rw (← listed-long p) h) ∙ rw e
+pub assets-listed : (s x : List ℕ) (t : List Named) (u : Table Named) → x ≡ s → Listed (named_assets (front x)) t 0 u.items.now u.count →
+    (v : TableView Named) → v.items.now ≡ u.items.now → v.count ≡ u.count → Assets s v
+assets-listed s x t u e p v i j h =
+    let l : u.count ≤ length u.items.now = rw (i, j) at h in
+    rw (i, j) (listed-front (named_assets (front x)) t u.items.now u.count p (rw (← listed-long p) l) ∙ rw e)
 
 -- Looking for a name among them
 
@@ -149,7 +153,7 @@ among-all s name =
     among-placed s name (placed 3 (parts (front s))) (parts-stand s (record { place = 0; this = front s }) refl)
     ∙ rw (placed-row 3 (parts (front s)), entry-assets (front s))
 
-pub any-listed : (s name : List ℕ) (t : Table Named) → Assets s t → t.count ≤ length t.items.now → (l : List Named) → l ≡ take t.count t.items.now →
+pub any-listed : (s name : List ℕ) (t : TableView Named) → Assets s t → t.count ≤ length t.items.now → (l : List Named) → l ≡ take t.count t.items.now →
     any (named_by s name) l ≡ any (same_bytes name) (asset_params (front s))
 any-listed s name t a h l e = rw (e, a h) (among-all s name)
 

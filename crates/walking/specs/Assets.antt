@@ -6,7 +6,7 @@ use Rattle.tags.specs.Tag.{Parameter}
 use Rattle.fields.specs.Field.{Field, Placed, tag, front, placed_parts}
 use Rattle.fields.specs.Number.{short_number}
 use Rattle.fields.specs.declared.named.Named.{Named}
-use Rattle.fields.specs.declared.table.Table.{Table}
+use Rattle.fields.specs.declared.table.TableView.{TableView}
 use Rattle.model.specs.Model.{name_of}
 use Rattle.walking.specs.Walking.{is_asset_parameter}
 
@@ -24,5 +24,5 @@ unfoldable pub named_by : (s name : List ℕ) → Named → Bool
 named_by s name a = eqb a.number (short_number name) && same_bytes name (name_of (front (drop a.place s)))
 
 -- a table in which the asset parameters of the entry at the front of s are listed, if there was room for so many
-abbrev pub Assets : (s : List ℕ) → Table Named → Type 0
+abbrev pub Assets : (s : List ℕ) → TableView Named → Type 0
 Assets s table = table.count ≤ length table.items.now → take table.count table.items.now ≡ named_assets (front s)

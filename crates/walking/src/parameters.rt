@@ -16,7 +16,7 @@ use fields::front::{part_of, parts_of, text_of};
 use fields::named::Named;
 use fields::number::short_number;
 use fields::row::{Field, fields_at};
-use fields::table::{Table, empty_table};
+use fields::table::{Table, TableView, empty_table};
 use model::name_of;
 use tags::PARAMETER;
 
@@ -89,7 +89,7 @@ fn is_named(s: &[u8], asset: &Named, number: u16, name: &[u8]) -> bool
 
 // Whether the entry at the front of s has an asset parameter of that name, by the table in which they were listed: it may have had
 // too little room. Only where the numbers of two names are equal are they compared.
-pub fn has_listed_asset(s: &[u8], assets: &Table<Named>, name: &[u8]) -> bool
+pub fn has_listed_asset(s: &[u8], assets: &TableView<Named>, name: &[u8]) -> bool
     requires { Assets s.now assets.now }
     ensures { result ≡ any (same_bytes name.now) (asset_params (front s.now)) }
 {

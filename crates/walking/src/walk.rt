@@ -1,3 +1,4 @@
+// SPDX-License-Identifier: Apache-2.0 OR MIT
 // The walk: the places of the expressions of one tag, in walk order, in a table that the caller lends. An expression
 // visits its list of parts, and the list, gone through by a loop, visits expressions: the stack grows with the nesting
 // of a file and not with the length of its lists.
@@ -32,7 +33,9 @@ fn note_place(field: &Field, tag: u8, places: &mut Table<u16>)
 }
 
 // Lists the expressions in a field, itself before its parts. Most have no parts, and then nothing is called. The tag stays and the
-// table changes, here and below: a struct of both would have to say at each call that the tag is the same.
+// table changes, here and below: a struct of both would have to say at each call that the tag is the same. It is compiled into the
+// loop below, so that a level of nesting takes the stack of one call and not of two.
+#[inline(always)]
 #[cycle(visit_expression_visit_parts)]
 fn visit_expression(field: Field, tag: u8, places: &mut Table<u16>)
     requires { 3 * places.old.count + length field.part.now < 3 * 2 ^ 64 }
@@ -44,17 +47,19 @@ fn visit_expression(field: Field, tag: u8, places: &mut Table<u16>)
     note_place(&field, tag, places);
     let parts = field.parts();
     if !parts.rest.is_empty() {
-        visit_parts(parts, tag, places);
+        visit_parts(parts.rest, parts.place, tag, places);
     }
 }
 
-// The same of fields in a row.
+// The same of the fields of s, which stands at a place. They come as a slice and a number, which are handed over without the stack: as
+// a Fields each level of nesting took twice as much of it.
 #[cycle(visit_expression_visit_parts)]
-fn visit_parts(parts: Fields, tag: u8, places: &mut Table<u16>)
-    requires { 3 * places.old.count + length parts.rest.now < 3 * 2 ^ 64 }
-    ensures { Lists (places_of tag (walk_parts parts.entry.place (fields parts.entry.rest.now))) places.old places.new }
+fn visit_parts(s: &[u8], place: usize, tag: u8, places: &mut Table<u16>)
+    requires inside { place + length s.now < 2 ^ 64 }
+    requires room { 3 * places.old.count + length s.now < 3 * 2 ^ 64 }
+    ensures { Lists (places_of tag (walk_parts place (fields s.now))) places.old places.new }
 {
-    for part in parts {
+    for part in fields_at(s, place) {
         visit_expression(part, tag, places);
     }
 }
@@ -65,7 +70,8 @@ fn visit_statement(field: Field, tag: u8, places: &mut Table<u16>)
     ensures { Lists (places_of tag (stmt_exprs (shown field.entry))) places.old places.new }
 {
     if is_statement(field.tag()) {
-        visit_parts(field.parts(), tag, places);
+        let parts = field.parts();
+        visit_parts(parts.rest, parts.place, tag, places);
     }
 }
 

@@ -3,6 +3,6 @@ use Rattle.model.specs.Model.{entries}
 use Rattle.model.proofs.Accessors.{found-nth}
 use Rattle.model.proofs.nth_entry.Goals as goal
 
-pub returns : goal.returns
+pub returns-clause-found : goal.returns-clause-found
 unfolding entries
-returns c = search found-nth
+returns-clause-found c = search found-nth

@@ -1,8 +1,11 @@
 -- The parameters are selected by their tags.
 use Rattle.model.specs.Model.{params}
-use Rattle.model.proofs.Accessors.{this-nth}
+use Rattle.model.proofs.Accessors.{this-nth, part-nth}
 use Rattle.model.proofs.nth_parameter.Goals as goal
 
-pub returns : goal.returns
+pub returns-clause-reads : goal.returns-clause-reads
 unfolding params
-returns c = search this-nth
+returns-clause-reads c = search this-nth
+
+pub returns-clause-placed : goal.returns-clause-placed
+returns-clause-placed c = search part-nth

@@ -3,6 +3,6 @@ use Rattle.model.specs.Model.{states}
 use Rattle.model.proofs.Accessors.{found-nth}
 use Rattle.model.proofs.nth_state.Goals as goal
 
-pub returns : goal.returns
+pub returns-clause-found : goal.returns-clause-found
 unfolding states
-returns c = search found-nth
+returns-clause-found c = search found-nth

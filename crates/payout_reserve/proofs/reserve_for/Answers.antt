@@ -7,4 +7,4 @@ pub new-requires-clause-right : goal.new-requires-clause-right
 new-requires-clause-right c = search facts-none
 
 pub returns : goal.returns
-returns c = alone-asked _ _ _ _ (rw (c.new.ensures.same_file, c.nothing_known-facts.ensures.file) at c.reserve_bounding_payout.ensures.found)
+returns c = alone-asked _ _ _ _ (rw (c.new.ensures.same_file, c.nothing_known-facts.ensures.file c.requires) at c.reserve_bounding_payout.ensures.found)

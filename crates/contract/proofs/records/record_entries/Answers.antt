@@ -13,14 +13,13 @@ use Rattle.contract.proofs.Recording.{entries-of, recording-none, worse-of, next
 use Rattle.contract.proofs.records.record_entries.Goals.{In-Some}
 use Rattle.contract.proofs.records.record_entries.Goals as goal
 
-pub nothing_known-facts-requires : goal.nothing_known-facts-requires
-nothing_known-facts-requires c = short-file _ c.requires.passed
-
 pub new-reading-requires-clause-right : goal.new-reading-requires-clause-right
 new-reading-requires-clause-right c = search facts-none
 
 pub loop-entry-init : goal.loop-entry-init
-loop-entry-init c = (refl, search rules, recording-none _ c.requires.passed _)
+loop-entry-init c =
+    let e = c.nothing_known-facts.ensures.file (short-file _ c.requires.passed) in
+    (refl, recording-none _ c.requires.passed _ _ (search (e, rules)))
 
 -- what the row yields is the next entry
 next : (c : In-Some) → (c.loop-entry.count < length (entries (fields c.args.file.now)))
@@ -33,7 +32,7 @@ next c =
     c.loop-entry.yielded _ c.loop-entry.yielded_by _ c.next.new.self c.in-Some.entry c.in-Some.is c.next.ensures.steps)
 
 pub record_entry-what-requires : goal.record_entry-what-requires
-record_entry-what-requires c = rw c.loop-entry.invariant.1 (next-inside _ c.requires.passed c.new-output.result _ _ (next (goal.at.record_entry-what-requires c).In-Some))
+record_entry-what-requires c = rw c.loop-entry.invariant.1.of (next-inside _ c.requires.passed c.new-output.result _ _ (next (goal.at.record_entry-what-requires c).In-Some))
 
 pub overflow_add-count : goal.overflow_add-count
 overflow_add-count c = let few = next-counted _ c.requires.passed c.new-output.result _ _ (next (goal.at.overflow_add-count c).In-Some) in omega arith
@@ -41,9 +40,8 @@ overflow_add-count c = let few = next-counted _ c.requires.passed c.new-output.r
 pub loop-entry-preserved : goal.loop-entry-preserved
 loop-entry-preserved c = (
   rw (length-append, ← c.loop-entry.invariant.0),
-  c.record_entry-what.ensures.same.file ∙ c.loop-entry.invariant.1,
-  recording_on _ c.requires.passed c.new-output.result _ _ (next (goal.at.loop-entry-preserved c).In-Some) _ _ c.loop-entry.invariant.2 _ _
-      (rw c.loop-entry.invariant.1 at c.record_entry-what.ensures.record) _ (ap outcome_number c.max-outcome.ensures ∙ worse-of _ _),
+  recording_on _ c.requires.passed c.new-output.result _ _ (next (goal.at.loop-entry-preserved c).In-Some) _ _ _ c.loop-entry.invariant.1 _
+      c.record_entry-what.ensures.same _ _ (rw c.loop-entry.invariant.1.of at c.record_entry-what.ensures.record) _ (ap outcome_number c.max-outcome.ensures ∙ worse-of _ _),
 )
 
 pub returns : goal.returns
@@ -54,4 +52,4 @@ returns c =
     (λ x b q k. search rules)))
     c.loop-entry.yielded _ c.loop-entry.yielded_by _ c.next.new.self c.in-None.is c.next.ensures.steps in
     let all = rw (entries-of _ _ _ c.fields_at.ensures.rest c.fields_at.ensures.place, ← c.loop-entry.invariant.0) at end.1 in
-    recording-all _ c.requires.passed c.new-output.result _ _ _ c.loop-entry.invariant.2 all _ _ c.new-output.ensures.kept c.new-output.ensures.none (search rules)
+    recording-all _ c.requires.passed c.new-output.result _ _ _ _ c.loop-entry.invariant.1 all _ _ c.new-output.ensures.kept c.new-output.ensures.none (search rules)

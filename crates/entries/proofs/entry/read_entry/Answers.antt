@@ -7,7 +7,7 @@ use Rattle.entries.proofs.entry.read_entry.Goals as goal
 pub list_parameters-requires : goal.list_parameters-requires
 list_parameters-requires c =
     debits-standing _ _ _ (calls-all _ _ _ c.requires c.list_body-body.result c.list_body-body.ensures.listed _ c.listed-calls.ensures)
-    c.list_where-backings.result (c.list_where-backings.ensures.listed is_debit (λ s r p. search rules))
+    _ _ (c.list_where-backings.ensures.listed is_debit (λ s r p. search rules))
 
 pub returns-clause-read : goal.returns-clause-read
 returns-clause-read c =

@@ -22,7 +22,7 @@ one_more zero number (q ∷ ps) p e = cc
 one_more (suc n) number (q ∷ ps) p e = one_more n number ps p e
 
 pub returns-in-None : goal.returns-in-None
-returns-in-None c = at-most 64 8 _ c.in-None.ensures
+returns-in-None c = at-most 64 8 _ c.in-None.ensures.found
 
 pub returns-in-Some : goal.returns-in-Some
-returns-in-Some c = one_more 64 8 _ (shown c.in-Some.entry) c.in-Some.ensures
+returns-in-Some c = one_more 64 8 _ (shown c.in-Some.entry) c.in-Some.ensures.found
