@@ -7,7 +7,8 @@ use Rattle.laws.specs.Texts.{same_bytes}
 use Rattle.laws.proofs.Lists.{Every}
 use Rattle.laws.proofs.Texts.{bytes-equal, bytes_same, same-pointwise}
 use Rattle.fields.specs.Field.{Fields, end, next, front, nth, parts, placed, text}
-use Rattle.fields.specs.Number.{front_word}
+use Rattle.std.specs.Int.{Width, w16, w64}
+use Rattle.fields.specs.Number.{front_number}
 use Rattle.fields.proofs.Words.{front-same}
 use Rattle.fields.proofs.Inside.{Stands, parts-stand}
 use Rattle.fields.proofs.Parts.{text-bytes}
@@ -35,20 +36,26 @@ other-bytes s name x e r f h = h ∙ go (same_bytes name (name_of (front s))) re
 pub returns-else-starts_with : goal.returns-else-starts_with
 returns-else-starts_with c = search other-bytes
 
--- where the first eight bytes are others, so is the name
-other-front : (s name x : List ℕ) → x ≡ drop 6 s → (a b : ℕ) → a ≡ front_word x → b ≡ front_word name →
-    leb 8 (length name) && not (eqb a b) ≡ true → false ≡ same_bytes name (name_of (front s))
-other-front s name x e a b f g t = go (same_bytes name (name_of (front s))) refl
+-- where the first bytes are others, so is the name
+other-front : (w : Width) (count : ℕ) (s name x : List ℕ) → x ≡ drop 6 s →
+    (a b : ℕ) → a ≡ front_number w count x → b ≡ front_number w count name →
+    leb count (length name) && not (eqb a b) ≡ true → false ≡ same_bytes name (name_of (front s))
+other-front w count s name x e a b f g t = go (same_bytes name (name_of (front s))) refl
   where
     go : (k : Bool) → same_bytes name (name_of (front s)) ≡ k → false ≡ k
     go true h =
         let z : name ≡ name_of (front s) = bytes-equal name (name_of (front s)) h in
-        let w : take (length name) x ≡ name = rw (e, z) (sym (name-bytes s)) in
-        let l : 8 ≤ length name = leb-true 8 (length name) (and_left (leb 8 (length name)) (not (eqb a b)) t) in
-        let q : a ≡ b = f ∙ sym (front-same (length name) x l) ∙ ap front_word w ∙ sym g in
-        let d : not (eqb a b) ≡ true = and_right (leb 8 (length name)) (not (eqb a b)) t in
+        let v : take (length name) x ≡ name = rw (e, z) (sym (name-bytes s)) in
+        let l : count ≤ length name = leb-true count (length name) (and_left (leb count (length name)) (not (eqb a b)) t) in
+        let q : a ≡ b = f ∙ sym (front-same w count (length name) x l) ∙ ap (front_number w count) v ∙ sym g in
+        let d : not (eqb a b) ≡ true = and_right (leb count (length name)) (not (eqb a b)) t in
         absurd (false≢true (rw (eq-eqb a b q) at d))
     go false h = refl
 
+pub returns-then-name-front_pair : goal.returns-then-name-front_pair
+returns-then-name-front_pair c =
+    other-front w16 2 _ _ _ c.skip-there.ensures _ _ c.front_pair.ensures c.front_pair-2.ensures c.if-name-front_pair.true
+
 pub returns-then-name-front_word : goal.returns-then-name-front_word
-returns-then-name-front_word c = other-front _ _ _ c.skip-there.ensures _ _ c.front_word.ensures c.front_word-2.ensures c.if-name-front_word.true
+returns-then-name-front_word c =
+    other-front w64 8 _ _ _ c.skip-there.ensures _ _ c.front_word.ensures c.front_word-2.ensures c.if-name-front_word.true
