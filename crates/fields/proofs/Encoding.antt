@@ -13,10 +13,10 @@ use Rattle.fields.proofs.Places.{tree-size, content-length}
 abbrev pub Bytes : List ℕ → Type 0
 Bytes s = (i : ℕ) → get_or s i 0 < 256
 
-bytes_drop : (n : ℕ) (s : List ℕ) → Bytes s → Bytes (drop n s)
+pub bytes_drop : (n : ℕ) (s : List ℕ) → Bytes s → Bytes (drop n s)
 bytes_drop n s b i = rw get_or-drop (b (n + i))
 
-bytes_take : (n : ℕ) (s : List ℕ) → Bytes s → Bytes (take n s)
+pub bytes_take : (n : ℕ) (s : List ℕ) → Bytes s → Bytes (take n s)
 bytes_take n s b i = go (leb n i) refl
   where
     go : (k : Bool) → leb n i ≡ k → get_or (take n s) i 0 < 256

@@ -1,6 +1,6 @@
 -- A number made of a text's bytes.
 use Rattle.std.specs.Prelude.{ℕ, ◌+◌, ◌*◌, ◌/◌, ◌%◌, cond, List, [], ◌∷◌, leb, length, take}
-use Rattle.std.specs.Int.{Width, w16, w64, from_le_bytes}
+use Rattle.std.specs.Int.{Width, w16, w32, w64, from_le_bytes}
 
 -- behind bytes with the number n
 unfoldable pub number_from : (base n : ℕ) → List ℕ → ℕ
@@ -19,9 +19,12 @@ short_number s = text_number 1640531527 (take 32 s) / 65536
 unfoldable pub front_number : Width → (count : ℕ) → List ℕ → ℕ
 front_number w count s = cond (leb count (length s)) (from_le_bytes w (take count s)) 0
 
--- of the first two, and of the first eight
+-- of the first two, four and eight
 abbrev pub front_pair : List ℕ → ℕ
 front_pair s = front_number w16 2 s
+
+abbrev pub front_quad : List ℕ → ℕ
+front_quad s = front_number w32 4 s
 
 abbrev pub front_word : List ℕ → ℕ
 front_word s = front_number w64 8 s

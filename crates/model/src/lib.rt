@@ -14,7 +14,7 @@ ghost use Rattle.fields.specs.Row.{shown, left, reach, end_of};
 ghost use Rattle.model.specs.Model.{name_of, state_names, states, genesis, entries, params, clauses, body};
 ghost use Rattle.model.specs.Shown.{this_of, or_nothing};
 
-use fields::bytes::{front_pair, front_word, same_bytes, skip};
+use fields::bytes::same_in_steps;
 use fields::front::{part_of, parts_of, text_of};
 use fields::row::{Field, Fields, fields_at};
 use tags::{
@@ -29,20 +29,17 @@ pub fn name_of(s: &[u8]) -> &[u8]
 }
 
 // Whether the state field, entry or parameter at the front of s has this name. It would stand behind two heads, and most fields
-// have another there: that takes less time than to read the name, and of most names the first two or eight bytes tell it by one step.
-// It is asked of each field, and so it is compiled into the loops.
+// have another there: that takes less time than to read the name. It is asked of each field, and so it is compiled into the loops.
 #[inline(always)]
 pub fn is_named(s: &[u8], name: &[u8]) -> bool
     ensures { result ≡ same_bytes name.now (name_of (front s.now)) }
 {
-    let there = skip(s, 6);
-    if (2 <= name.len()) & (front_pair(there) != front_pair(name)) {
-        return false;
+    if let Some(there) = s.get(6..6 + name.len()) {
+        if !same_in_steps(name, there) {
+            return false;
+        }
     }
-    if (8 <= name.len()) & (front_word(there) != front_word(name)) {
-        return false;
-    }
-    there.starts_with(name) && same_bytes(name, name_of(s))
+    same_in_steps(name, name_of(s))
 }
 
 // Whether a state field of s has this name. It reads like the two searches of raises (zero.rt), of other tags and with other tests.
